@@ -1,0 +1,6 @@
+pub mod Tables
+pub mod BitLaws
+pub mod DigitLaws
+pub mod Flow
+pub mod AlphabetLaws
+pub mod WrittenLaws

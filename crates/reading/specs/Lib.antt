@@ -1,0 +1,6 @@
+pub mod Options
+pub mod Limit
+pub mod Cleaning
+pub mod Reader
+pub mod Continuation
+pub mod Piece
