@@ -118,6 +118,7 @@ spare-tail a h {d} l p = go (eqb (tail a d) 0) refl (every (group a) (spare-test
     go : (x : Bool) → eqb (tail a d) 0 ≡ x → T (x || eqb (spare a (tail a d)) (bits a * d % 8) && ltb 0 (bits a * d % 8))
         → (spare a (tail a d) ≡ bits a * d % 8) × (0 < bits a * d % 8)
     go true e t = absurd (omega (arith, eqb-true (tail a d) 0 e))
-    go false e t =
-        (eqb→eq (spare a (tail a d)) (bits a * d % 8) (and-left (eqb (spare a (tail a d)) (bits a * d % 8)) (ltb 0 (bits a * d % 8)) t),
-        ltb→lt 0 (bits a * d % 8) (and-right (eqb (spare a (tail a d)) (bits a * d % 8)) (ltb 0 (bits a * d % 8)) t))
+    go false e t = (
+      eqb→eq (spare a (tail a d)) (bits a * d % 8) (and-left (eqb (spare a (tail a d)) (bits a * d % 8)) (ltb 0 (bits a * d % 8)) t),
+      ltb→lt 0 (bits a * d % 8) (and-right (eqb (spare a (tail a d)) (bits a * d % 8)) (ltb 0 (bits a * d % 8)) t),
+    )

@@ -40,8 +40,8 @@ digits-spell b bytes h =
       spare = b * d - 8 * length bytes;
       few = count-bounds b (length bytes) h .1;
       same =
-        unpack-pack b d (unpack 8 bytes ++ zeros (b * d - 8 * length bytes))
-        (simp (length-append, unpack-length, length-replicate) (omega (arith, count-bounds b (length bytes) h)))
+          unpack-pack b d (unpack 8 bytes ++ zeros (b * d - 8 * length bytes))
+          (simp (length-append, unpack-length, length-replicate) (omega (arith, count-bounds b (length bytes) h)));
     }
 
 pub spell-digits : (b : ℕ) (ds bytes : List ℕ) → Below (2 ^ b) ds → Spells b ds bytes → digitsOf b bytes ≡ ds
@@ -84,9 +84,9 @@ regrouped b ds =
       small = rw (left-length b ds) at (value-lt (drop (8 * (b * length ds / 8)) (unpack b ds)));
       bytes = pack-below 8 (b * length ds / 8) (unpack b ds);
       same =
-        rw
-        (unpack-front 8 (b * length ds / 8) (unpack b ds) (omega (arith, unpack-length b ds)), bits-value-at (b * length ds % 8) (drop (8 * (b * length ds / 8)) (unpack b ds)) (left-length b ds))
-        (sym (take-append-drop (8 * (b * length ds / 8)) (unpack b ds)))
+          rw
+          (unpack-front 8 (b * length ds / 8) (unpack b ds) (omega (arith, unpack-length b ds)), bits-value-at (b * length ds % 8) (drop (8 * (b * length ds / 8)) (unpack b ds)) (left-length b ds))
+          (sym (take-append-drop (8 * (b * length ds / 8)) (unpack b ds)));
     }
 
 -- ---- the digits of some bytes are exactly those whose left-over bits are fewer than b and zero
@@ -100,7 +100,7 @@ spells-whole b ds bytes h l s =
     let g : Regrouped b ds bytes (s .spare) 0 = spells-regrouped b ds bytes h l s in
     record {
       few = omega (arith, regrouped-bits b ds bytes (s .spare) 0 g, s .few);
-      clear = sym (regrouped-left b ds bytes (s .spare) 0 g)
+      clear = sym (regrouped-left b ds bytes (s .spare) 0 g);
     }
 
 pub whole-spells : (b : ℕ) (ds : List ℕ) → Whole b ds → Spells b ds (bytesOf b ds)
@@ -108,7 +108,7 @@ whole-spells b ds w =
     record {
       spare = b * length ds % 8;
       few = w .few;
-      same = regrouped b ds .same ∙ ap (λ (x : ℕ). unpack 8 (bytesOf b ds) ++ bitsOf (b * length ds % 8) x) (w .clear) ∙ ap (λ (x : List Bool). unpack 8 (bytesOf b ds) ++ x) (bits-zero (b * length ds % 8))
+      same = regrouped b ds .same ∙ ap (λ (x : ℕ). unpack 8 (bytesOf b ds) ++ bitsOf (b * length ds % 8) x) (w .clear) ∙ ap (λ (x : List Bool). unpack 8 (bytesOf b ds) ++ x) (bits-zero (b * length ds % 8));
     }
 
 -- the digits of bytes are whole, and give the bytes back

@@ -27,7 +27,7 @@ module _ (m w : ℕ) where
       record {
         small = rw (pow-add 2 r m) (digits-lt (f .small) h);
         below = f .below;
-        same = rw (unpack-append m ins (v ∷ []), f .same, bits-join r m held h, append-assoc, append-nil)
+        same = rw (unpack-append m ins (v ∷ []), f .same, bits-join r m held h, append-assoc, append-nil);
       }
 
   pub emit : (ins outs : List ℕ) (n held : ℕ) → Flow m w ins outs (w + n) held → Flow m w ins (outs ++ held / 2 ^ n ∷ []) n (held % 2 ^ n)
@@ -36,7 +36,7 @@ module _ (m w : ℕ) where
       record {
         small = mod-lt held (pow-pos n);
         below = below-snoc (2 ^ w) outs (f .below) (shr-lt w n (f .small));
-        same = f .same ∙ rw (bits-split w n, bits-mod n held, unpack-append w outs (held / 2 ^ n ∷ []), append-assoc, append-nil)
+        same = f .same ∙ rw (bits-split w n, bits-mod n held, unpack-append w outs (held / 2 ^ n ∷ []), append-assoc, append-nil);
       }
 
   -- what has come out is what the first bits spell

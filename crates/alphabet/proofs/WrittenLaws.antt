@@ -33,7 +33,7 @@ canonical→digits a h c =
       values = digitsOf (bits a) (c .source);
       below = digits-below (bits a) (c .source);
       whole = digits-whole (bits a) (c .source) (omega (arith, bits-low a h)) (omega (arith, bits-high a h)) (c .bytes);
-      form = c .form
+      form = c .form;
     }
 
 pub digits→canonical : (a : ℕ) {t : List ℕ} → ByDigits a t → Canonical a t
@@ -42,7 +42,7 @@ digits→canonical a d =
     record {
       source = bytesOf (bits a) (d .values);
       bytes = bytes-below (bits a) (d .values);
-      form = ap (spelled a) (digits-bytes (bits a) (d .values) (d .below) (d .whole)) ∙ d .form
+      form = ap (spelled a) (digits-bytes (bits a) (d .values) (d .below) (d .whole)) ∙ d .form;
     }
 
 -- ---- the pads
@@ -84,7 +84,7 @@ in-table a h d l p = go (ltb 0 d && ltb (bits a * d % 8) (bits a)) refl
         record {
           some = ltb-true 0 d (and-true-left (ltb 0 d) (ltb (bits a * d % 8) (bits a)) e);
           few = ltb-true (bits a * d % 8) (bits a) (and-true-right (ltb 0 d) (ltb (bits a * d % 8) (bits a)) e);
-          pads = tail-is a h l ∙ ap (λ (t : Bool). cond t (group a - d) 0) e
+          pads = tail-is a h l ∙ ap (λ (t : Bool). cond t (group a - d) 0) e;
         }
     go false e = absurd (omega (arith, tail-is a h l ∙ ap (λ (t : Bool). cond t (group a - d) 0) e))
 
@@ -103,5 +103,5 @@ full-whole a h ds e =
     let r : bits a * length ds % 8 ≡ 0 = last-group a h (length ds) ∙ rw e (omega arith) in
     record {
       few = omega (arith, bits-low a h);
-      clear = lt-one (rw r at (regrouped (bits a) ds .small))
+      clear = lt-one (rw r at (regrouped (bits a) ds .small));
     }

@@ -41,9 +41,13 @@ module _ (a : ℕ) (h : a < 6) (opts : ℕ) where
   pub refused-none : (t u : List ℕ) → Stop (feedAll a opts (going fresh []) t) → Accepted a opts (t ++ u) → ⊥
   unfolding readAll finish
   refused-none t u x c =
-      omega
-      (arith, x .4, accepted→accepts a h opts (t ++ u) c, ap (λ (r : Reading). finish a opts r .answer)
-      (feed-append a opts (going fresh []) t u ∙ ap (λ (r : Reading). feedAll a opts r u) (x .3) ∙ feed-stopped a opts (x .0) (x .1) (x .2) u))
+      omega (
+        arith,
+        x .4,
+        accepted→accepts a h opts (t ++ u) c,
+        ap (λ (r : Reading). finish a opts r .answer)
+            (feed-append a opts (going fresh []) t u ∙ ap (λ (r : Reading). feedAll a opts r u) (x .3) ∙ feed-stopped a opts (x .0) (x .1) (x .2) u),
+      )
 
   -- ---- the first digit and the pad are plain
 
@@ -114,23 +118,25 @@ module _ (a : ℕ) (h : a < 6) (opts : ℕ) where
           let n : ℕ = tail a (length ds % group a) in
           let m : s .pads + (n - s .pads) ≡ n = omega (arith, y .fits) in
           let n> : 0 < n = omega (arith, y .fits, ltb-true 0 (s .pads) e) in
-          let b = by-table a h opts ds n> in
-          (replicate (n - s .pads) pad,
-          accepted-by (t ++ replicate (n - s .pads) pad) ds n (s .below)
-          (plain-append a opts t (replicate (n - s .pads) pad)
-          ∙ ap₂ (λ (p q : List ℕ). p ++ q) (s .spelt) (plain-one pad tt (turned-pad a opts) (n - s .pads))
-          ∙ append-assoc (map (digit a) ds) (replicate (s .pads) pad) (replicate (n - s .pads) pad)
-          ∙ ap (λ (p : List ℕ). map (digit a) ds ++ p) (replicate-append-replicate (s .pads) (n - s .pads) pad ∙ ap (λ (k : ℕ). replicate k pad) m))
-          (record { pads = pads-kept a opts ds n n> ∙ sym (b .0); few = b .1; clear = y .clear }))
+          let b = by-table a h opts ds n> in (
+            replicate (n - s .pads) pad,
+            accepted-by (t ++ replicate (n - s .pads) pad) ds n (s .below)
+                (plain-append a opts t (replicate (n - s .pads) pad)
+                ∙ ap₂ (λ (p q : List ℕ). p ++ q) (s .spelt) (plain-one pad tt (turned-pad a opts) (n - s .pads))
+                ∙ append-assoc (map (digit a) ds) (replicate (s .pads) pad) (replicate (n - s .pads) pad)
+                ∙ ap (λ (p : List ℕ). map (digit a) ds ++ p) (replicate-append-replicate (s .pads) (n - s .pads) pad ∙ ap (λ (k : ℕ). replicate k pad) m))
+                (record { pads = pads-kept a opts ds n n> ∙ sym (b .0); few = b .1; clear = y .clear }),
+          )
       go false e =
           let w : ℕ = wanting (group a) (length ds) in
           let p0 : s .pads ≡ 0 = omega (arith, ltb-false 0 (s .pads) e) in
           let es : List ℕ = ds ++ replicate w 0 in
           let full : length es % group a ≡ 0 = simp (length-append ds, length-replicate) (wanting-fills (group a) (length ds) (group-pos a h)) in
-          let none : wanting (group a) (length es) ≡ 0 = wanting-none (group a) (length es) full in
-          (replicate w (digit a 0),
-          accepted-by (t ++ replicate w (digit a 0)) es 0 (below-append (2 ^ bits a) ds (replicate w 0) (s .below) (below-zeros (2 ^ bits a) w (pow-pos (bits a))))
-          (plain-append a opts t (replicate w (digit a 0))
-          ∙ ap₂ (λ (p q : List ℕ). p ++ q) (s .spelt ∙ ap (λ (k : ℕ). map (digit a) ds ++ replicate k pad) p0 ∙ append-nil (map (digit a) ds)) (plain-one (digit a 0) zero-quiet zero-turned w)
-          ∙ rw (append-nil, map-append, map-zeros w))
-          (record { pads = pads-none a opts es none ∙ sym none; few = full-whole a h es full .few; clear = λ q. full-whole a h es full .clear }))
+          let none : wanting (group a) (length es) ≡ 0 = wanting-none (group a) (length es) full in (
+            replicate w (digit a 0),
+            accepted-by (t ++ replicate w (digit a 0)) es 0 (below-append (2 ^ bits a) ds (replicate w 0) (s .below) (below-zeros (2 ^ bits a) w (pow-pos (bits a))))
+                (plain-append a opts t (replicate w (digit a 0))
+                ∙ ap₂ (λ (p q : List ℕ). p ++ q) (s .spelt ∙ ap (λ (k : ℕ). map (digit a) ds ++ replicate k pad) p0 ∙ append-nil (map (digit a) ds)) (plain-one (digit a 0) zero-quiet zero-turned w)
+                ∙ rw (append-nil, map-append, map-zeros w))
+                (record { pads = pads-none a opts es none ∙ sym none; few = full-whole a h es full .few; clear = λ q. full-whole a h es full .clear }),
+          )

@@ -104,7 +104,7 @@ module _ (a : ℕ) (h : a < 6) (opts : ℕ) (t : List ℕ) (r : Reading) (s : Se
         below = s .below;
         here = step-here (feed-dropped a opts (s .values) (s .pads) (length t) c f) ∙ ap (seen a (s .values) (s .pads)) snoc-length;
         spelt = plain-snoc [] (plain-drop a opts c f) ∙ append-nil (map (digit a) (s .values) ++ replicate (s .pads) pad);
-        tailed = s .tailed
+        tailed = s .tailed;
       })
 
   digits : dropped opts c ≡ false → isDigit a (turned a opts c) ≡ true → s .pads ≡ 0 → Next
@@ -116,11 +116,11 @@ module _ (a : ℕ) (h : a < 6) (opts : ℕ) (t : List ℕ) (r : Reading) (s : Se
         pads = 0;
         below = below-snoc (2 ^ bits a) (s .values) (s .below) (d .0);
         here =
-          step-here
-          (ap (λ (p : ℕ). feed a opts (seen a (s .values) p (length t)) c) z ∙ feed-digit a h opts (s .values) (length t) c f g (d .0))
-          ∙ ap (seen a (s .values ++ value a (turned a opts c) ∷ []) 0) snoc-length;
+            step-here
+            (ap (λ (p : ℕ). feed a opts (seen a (s .values) p (length t)) c) z ∙ feed-digit a h opts (s .values) (length t) c f g (d .0))
+            ∙ ap (seen a (s .values ++ value a (turned a opts c) ∷ []) 0) snoc-length;
         spelt = plain-snoc (turned a opts c ∷ []) (plain-keep a opts c f) ∙ rw (z, append-nil, append-nil, map-append, d .1);
-        tailed = λ l. absurd (omega arith)
+        tailed = λ l. absurd (omega arith);
       })
 
   pads : dropped opts c ≡ false → isDigit a (turned a opts c) ≡ false → isPad a c ≡ true → Next
@@ -135,10 +135,10 @@ module _ (a : ℕ) (h : a < 6) (opts : ℕ) (t : List ℕ) (r : Reading) (s : Se
             below = s .below;
             here = step-here (x .0) ∙ ap (seen a (s .values) (s .pads + 1)) snoc-length;
             spelt =
-              plain-snoc (pad ∷ []) (plain-keep a opts c f ∙ ap (λ (y : ℕ). y ∷ []) (ap (turned a opts) (is-pad a c k) ∙ turned-pad a opts))
-              ∙ append-assoc (map (digit a) (s .values)) (replicate (s .pads) pad) (pad ∷ [])
-              ∙ ap (λ (y : List ℕ). map (digit a) (s .values) ++ y) (replicate-append-replicate (s .pads) 1 pad);
-            tailed = λ l. x .1
+                plain-snoc (pad ∷ []) (plain-keep a opts c f ∙ ap (λ (y : ℕ). y ∷ []) (ap (turned a opts) (is-pad a c k) ∙ turned-pad a opts))
+                ∙ append-assoc (map (digit a) (s .values)) (replicate (s .pads) pad) (pad ∷ [])
+                ∙ ap (λ (y : List ℕ). map (digit a) (s .values) ++ y) (replicate-append-replicate (s .pads) 1 pad);
+            tailed = λ l. x .1;
           })
       go (inr x) = inr (x .0, x .1, x .2, step-here (x .3), x .4)
 
@@ -191,7 +191,7 @@ start a opts =
       below = tt;
       here = fresh-seen a;
       spelt = refl;
-      tailed = λ l. absurd (omega arith)
+      tailed = λ l. absurd (omega arith);
     }
 
 -- ---- with no option set
@@ -220,9 +220,10 @@ ended a ds p i e = go (ltb 0 p) refl (eqb p (tail a (length ds % group a))) refl
 by-tail : (a : ℕ) → a < 6 → (ds : List ℕ) → 0 < tail a (length ds % group a) → leftOf (bits a) ds ≡ 0
     → Whole (bits a) ds × (wanting (group a) (length ds) ≡ tail a (length ds % group a))
 by-tail a h ds l z =
-    let k : InTable a (length ds % group a) = in-table a h (length ds % group a) (mod-lt (length ds) (group-pos a h)) l in
-    (record { few = omega (arith, last-group a h (length ds), k .few); clear = z },
-    wanting-some (group a) (length ds) (group-pos a h) (k .some) ∙ sym (k .pads))
+    let k : InTable a (length ds % group a) = in-table a h (length ds % group a) (mod-lt (length ds) (group-pos a h)) l in (
+      record { few = omega (arith, last-group a h (length ds), k .few); clear = z },
+      wanting-some (group a) (length ds) (group-pos a h) (k .some) ∙ sym (k .pads),
+    )
 
 seen-canonical : (a : ℕ) → a < 6 → (t : List ℕ) (r : Reading) (s : Seen a 0 t r) → finish a 0 r .answer ≡ 0 → Canonical a t
 unfolding finish spelled chosen
@@ -232,7 +233,7 @@ seen-canonical a h t r s e =
     go : ((0 < s .pads) × (s .pads ≡ tail a (length (s .values) % group a))) ⊎ ((s .pads ≡ 0) × (length (s .values) % group a ≡ 0)) → Canonical a t
     go (inl x) =
         let w : Whole (bits a) (s .values) × (wanting (group a) (length (s .values)) ≡ tail a (length (s .values) % group a)) =
-            by-tail a h (s .values) (omega arith) (s .tailed (x .0) .clear refl) in
+        by-tail a h (s .values) (omega arith) (s .tailed (x .0) .clear refl) in
         digits→canonical a
         (record { values = s .values; below = s .below; whole = w .0; form = rw (w .1, ← x .1, ← s .spelt) (strict-plain a t) })
     go (inr x) =

@@ -163,7 +163,7 @@ module _ (b : ℕ) (ds : List ℕ) (v s n : ℕ) (few : s < b) (small : s < 8) (
         few = small;
         small = mod-lt w (pow-pos s);
         bytes = pack-below 8 n front;
-        same = unpack-last w e ∙ rw (unpack-pack 8 n front front-length, bits-mod s w)
+        same = unpack-last w e ∙ rw (unpack-pack 8 n front front-length, bits-mod s w);
       }
 
   pub cleared-left : leftOf b (ds ++ clearLow s v ∷ []) ≡ 0

@@ -69,7 +69,7 @@ shape-front a (c ∷ u) w (v ∷ ds) q l e =
       values = v ∷ r .values;
       pads = r .pads;
       below = (l .0, r .below);
-      form = ap₂ (λ (x : ℕ) (xs : List ℕ). x ∷ xs) (sym (head-eq-of-cons-eq e)) (r .form)
+      form = ap₂ (λ (x : ℕ) (xs : List ℕ). x ∷ xs) (sym (head-eq-of-cons-eq e)) (r .form);
     }
 
 set-shape : (a : ℕ) (ds : List ℕ) (q j w : ℕ) → j < length ds → set (shape a ds q) j (digit a w) ≡ shape a (set ds j w) q
@@ -146,7 +146,7 @@ cleared-back a h opts t s = go (cleared-cases a opts t)
               values = set (s .values) j (value a c);
               pads = s .pads;
               below = below-set (2 ^ bits a) (s .values) j (value a c) (s .below) (k .0);
-              form = sym (set-shape a (s .values) (s .pads) j (value a c) (ltb-true j (length (s .values)) e)) ∙ ap (set (shape a (s .values) (s .pads)) j) (k .1) ∙ back
+              form = sym (set-shape a (s .values) (s .pads) j (value a c) (ltb-true j (length (s .values)) e)) ∙ ap (set (shape a (s .values) (s .pads)) j) (k .1) ∙ back;
             }
         pick j c w k w< back there m false e =
             absurd (digit-no-pad a h w< (sym there ∙ late-pad a (s .values) (s .pads) j (ltb-false j (length (s .values)) e) m))
@@ -203,7 +203,7 @@ cleared-kept a h opts ds p l = pick (anySpare opts) refl
           below = below-snoc (2 ^ bits a) fs (k .0) (clear-below (spare a p) (k .1));
           size = length-append fs (clearLow (spare a p) v ∷ []) ∙ sym (length-append fs (v ∷ []));
           form = r .by ∙ replace-shape a h fs v p (k .1);
-          exact = λ n. absurd (subst T (sym (sym n ∙ e)) tt)
+          exact = λ n. absurd (subst T (sym (sym n ∙ e)) tt);
         }
 
     pick : (x : Bool) → anySpare opts ≡ x → Kept a opts ds p
@@ -219,12 +219,12 @@ accepted-closed a h opts ds p l c =
     let d : ByDigits a (cleared a opts (shape a ds q)) = canonical→digits a h c′ in
     let k : Kept a opts ds q = cleared-kept a h opts ds q l in
     let u : (d .values ≡ k .values) × (wanting (group a) (length (d .values)) ≡ q) =
-        unique a h (d .values) (k .values) (wanting (group a) (length (d .values))) q (d .below) (k .below) (d .form ∙ k .form) in
+    unique a h (d .values) (k .values) (wanting (group a) (length (d .values))) q (d .below) (k .below) (d .form ∙ k .form) in
     let n : length (d .values) ≡ length ds = ap length (u .0) ∙ k .size in
     record {
       pads = sym (u .1) ∙ ap (wanting (group a)) n;
       few = rw n at (d .whole .few);
-      clear = λ s. ap (leftOf (bits a)) (sym (u .0 ∙ k .exact s)) ∙ d .whole .clear
+      clear = λ s. ap (leftOf (bits a)) (sym (u .0 ∙ k .exact s)) ∙ d .whole .clear;
     }
 
 -- ---- a text of closed digits and pads is read to its end
@@ -348,7 +348,7 @@ closed-ends a h opts ds p c = go (ltb 0 p) refl (eqb (length ds % group a) 0) re
         absurd (omega (arith, ltb-true 0 p e, pads-kept a opts ds p (ltb-true 0 p e), c .pads, wanting-none (group a) (length ds) (eqb-true (length ds % group a) 0 f)))
     go true e false f =
         let t : p ≡ tail a (length ds % group a) =
-            sym (pads-kept a opts ds p (ltb-true 0 p e)) ∙ c .pads ∙ sym (table (omega (arith, eqb-false (length ds % group a) 0 f))) in
+        sym (pads-kept a opts ds p (ltb-true 0 p e)) ∙ c .pads ∙ sym (table (omega (arith, eqb-false (length ds % group a) 0 f))) in
         record { fits = omega arith; zero-answer = λ i. rw (e, eq-eqb p (tail a (length ds % group a)) t) }
     go false e true f = record { fits = omega (arith, ltb-false 0 p e); zero-answer = λ i. rw (e, f) }
     go false e false f =
@@ -360,16 +360,16 @@ closed-ends a h opts ds p c = go (ltb 0 p) refl (eqb (length ds % group a) 0) re
         record {
           fits = omega arith;
           zero-answer =
-            λ i. rw (e, f, n, ne-eqb (tail a (length ds % group a)) 0 (λ q. omega (arith, table d)), spares (eqb (leftOf (bits a) ds) 0) refl (anySpare opts) refl)
+              λ i. rw (e, f, n, ne-eqb (tail a (length ds % group a)) 0 (λ q. omega (arith, table d)), spares (eqb (leftOf (bits a) ds) 0) refl (anySpare opts) refl);
         }
 
 pub accepted→accepts : (a : ℕ) → a < 6 → (opts : ℕ) (t : List ℕ) → Accepted a opts t → readAll a opts t .answer ≡ 0
 unfolding readAll finish clean spelled
 accepted→accepts a h opts t c =
     let s : Shape a (plain a opts t) =
-        refilled-back a opts (plain a opts t) (cleared-back a h opts (refilled a opts (plain a opts t)) (whole (canonical→digits a h c))) in
+    refilled-back a opts (plain a opts t) (cleared-back a h opts (refilled a opts (plain a opts t)) (whole (canonical→digits a h c))) in
     let k : Closed a opts (s .values) (s .pads) =
-        accepted-closed a h opts (s .values) (s .pads) (s .below) (subst (λ (u : List ℕ). Canonical a (cleared a opts (refilled a opts u))) (sym (s .form)) c) in
+    accepted-closed a h opts (s .values) (s .pads) (s .below) (subst (λ (u : List ℕ). Canonical a (cleared a opts (refilled a opts u))) (sym (s .form)) c) in
     let e : Ends a opts (s .values) (s .pads) = closed-ends a h opts (s .values) (s .pads) k in
     ap (λ (r : Reading). finish a opts (feedAll a opts r t) .answer) (fresh-seen a)
     ∙ ap (λ (r : Reading). finish a opts r .answer) (feed-shape a h opts t [] (s .values) (s .pads) 0 (s .below) (sym (s .form)) (e .fits) (λ l. k .clear))

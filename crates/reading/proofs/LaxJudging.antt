@@ -100,13 +100,13 @@ module _ (a : ℕ) (h : a < 6) (opts : ℕ) where
       rw (cleared-shape a h opts ds v w v< e full (omega (arith, sw, st .1, last-group a h n)))
       (record {
         digits =
-          record {
-            values = ds ++ c ∷ [];
-            below = below-snoc (2 ^ bits a) ds (below-last (2 ^ bits a) ds l .0) (lt-of-le-of-lt (div-mul-le-self v (2 ^ spare a w)) v<);
-            whole = record { few = rw same f; clear = cleared-left (bits a) ds v (spare a w) (bits a * n / 8) (omega (arith, sw)) (omega (arith, sw)) size };
-            form = rw same
-          };
-        same = cleared-bytes (bits a) ds v (spare a w) (bits a * n / 8) (omega (arith, sw)) (omega (arith, sw)) size
+            record {
+              values = ds ++ c ∷ [];
+              below = below-snoc (2 ^ bits a) ds (below-last (2 ^ bits a) ds l .0) (lt-of-le-of-lt (div-mul-le-self v (2 ^ spare a w)) v<);
+              whole = record { few = rw same f; clear = cleared-left (bits a) ds v (spare a w) (bits a * n / 8) (omega (arith, sw)) (omega (arith, sw)) size };
+              form = rw same;
+            };
+        same = cleared-bytes (bits a) ds v (spare a w) (bits a * n / 8) (omega (arith, sw)) (omega (arith, sw)) size;
       })
 
   spelled-clear : (ds : List ℕ) → Below (2 ^ bits a) ds → bits a * length ds % 8 < bits a → 0 < length ds % group a → anySpare opts ≡ true
@@ -175,7 +175,7 @@ module _ (a : ℕ) (h : a < 6) (opts : ℕ) where
           record {
             pads = ap (padsAfter a opts ds) p0 ∙ pads-added a opts ds k (tail-padded a h (mod-lt (length ds) (group-pos a h)) t>);
             few = by-table ds t> .1;
-            clear = λ s. eqb-true (leftOf (bits a) ds) 0 (and-false (eqb (leftOf (bits a) ds) 0) (anySpare opts) m s)
+            clear = λ s. eqb-true (leftOf (bits a) ds) 0 (and-false (eqb (leftOf (bits a) ds) 0) (anySpare opts) m s);
           }
 
   -- answer 0: the cleaned text is the written form of the good bytes
@@ -186,8 +186,8 @@ module _ (a : ℕ) (h : a < 6) (opts : ℕ) where
       go : Seen a opts t (feedAll a opts (going fresh []) t) ⊎ Stop (feedAll a opts (going fresh []) t) → written a (readAll a opts t .good) ≡ clean a opts t
       go (inl s) =
           let y : Tidy a (s .values) (cleared a opts (refilled a opts (shape a (s .values) (s .pads)))) =
-              closed-tidy (s .values) (s .pads) (s .below)
-              (ended (s .values) (s .pads) (length t) (s .tailed) (sym (ap (λ (z : Reading). finish a opts z .answer) (s .here)) ∙ e)) in
+          closed-tidy (s .values) (s .pads) (s .below)
+          (ended (s .values) (s .pads) (length t) (s .tailed) (sym (ap (λ (z : Reading). finish a opts z .answer) (s .here)) ∙ e)) in
           rw (s .spelt, s .here, ← y .same, digits-bytes (bits a) (y .digits .values) (y .digits .below) (y .digits .whole)) (y .digits .form)
       go (inr x) = absurd (omega (arith, x .4, sym (ap (λ (z : Reading). finish a opts z .answer) (x .3)) ∙ e))
 

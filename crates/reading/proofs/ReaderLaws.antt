@@ -115,12 +115,13 @@ on-pad a opts ds p i t =
     go false e y f true g w k = inr (5, i, bytesOf (bits a) ds, rw (e, g), omega arith)
     go false e y f false g true k = inr (6, i, bytesOf (bits a) ds, rw (e, g, k), omega arith)
     go false e y f false g false k =
-        inl
-        (rw (e, g, k),
-        record {
-          fits = omega (arith, ltb-false 0 p e, eqb-false (tail a (length ds % group a)) 0 g);
-          clear = λ n. eqb-true (leftOf (bits a) ds) 0 (and-false (eqb (leftOf (bits a) ds) 0) (anySpare opts) k n)
-        })
+        inl (
+          rw (e, g, k),
+          record {
+            fits = omega (arith, ltb-false 0 p e, eqb-false (tail a (length ds % group a)) 0 g);
+            clear = λ n. eqb-true (leftOf (bits a) ds) 0 (and-false (eqb (leftOf (bits a) ds) 0) (anySpare opts) k n);
+          },
+        )
 
 pub feed-pad : (a opts : ℕ) (ds : List ℕ) (p i c : ℕ) → (0 < p → Tailed a opts ds p) → dropped opts c ≡ false
     → isDigit a (turned a opts c) ≡ false → isPad a c ≡ true → Padded a opts ds p i (feed a opts (seen a ds p i) c)
