@@ -4,3 +4,7 @@ pub mod DigitLaws
 pub mod Flow
 pub mod AlphabetLaws
 pub mod WrittenLaws
+pub mod SizeTests
+pub mod Shifts
+pub mod TableLaws
+pub mod RegroupLaws
