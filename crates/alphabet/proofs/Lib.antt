@@ -1,9 +1,12 @@
 pub mod Tables
+pub mod Below
 pub mod BitLaws
 pub mod DigitLaws
 pub mod Flow
 pub mod AlphabetLaws
+pub mod Symbols
 pub mod WrittenLaws
+pub mod Shapes
 pub mod SizeTests
 pub mod Shifts
 pub mod TableLaws
