@@ -17,7 +17,7 @@ count-is : (b d n r : ℕ) → r < b → b * d ≡ 8 * n + r → digitCount b n 
 unfolding digitCount
 count-is b d n r h e = div-eq-of-lt-le b (omega (arith, mul-comm d b)) (omega (arith, mul-comm d b, add-mul d 1 b, one-mul b))
 
-count-bounds : (b n : ℕ) → 0 < b → (8 * n ≤ b * digitCount b n) × (b * digitCount b n - 8 * n < b)
+pub count-bounds : (b n : ℕ) → 0 < b → (8 * n ≤ b * digitCount b n) × (b * digitCount b n - 8 * n < b)
 unfolding digitCount
 count-bounds b n h =
     let d : ℕ = (8 * n + (b - 1)) / b in

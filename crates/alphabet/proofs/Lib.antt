@@ -7,6 +7,8 @@ pub mod AlphabetLaws
 pub mod Symbols
 pub mod WrittenLaws
 pub mod Shapes
+pub mod Lengths
+pub mod Vectors
 pub mod SizeTests
 pub mod Shifts
 pub mod TableLaws

@@ -49,16 +49,20 @@ pub written-spelled : (a : ℕ) (bytes : List ℕ) → written a bytes ≡ spell
 unfolding written
 written-spelled a bytes = refl
 
-pub written-is : (a : ℕ) (bytes : List ℕ) → written a bytes ≡ shape a (digitsOf (bits a) bytes) (wanting (group a) (length (digitsOf (bits a) bytes)))
+-- the pads of the written form
+abbrev pub padsOf : ℕ → List ℕ → ℕ
+padsOf a bytes = wanting (group a) (length (digitsOf (bits a) bytes))
+
+pub written-is : (a : ℕ) (bytes : List ℕ) → written a bytes ≡ shape a (digitsOf (bits a) bytes) (padsOf a bytes)
 written-is a bytes = written-spelled a bytes ∙ spelled-is a (digitsOf (bits a) bytes)
 
 pub written-below : (a : ℕ) → a < 6 → (bytes : List ℕ) → Below 256 (written a bytes)
-written-below a h bytes = rw written-is (shape-below a h (digitsOf (bits a) bytes) _ (digits-below (bits a) bytes))
+written-below a h bytes = rw written-is (shape-below a h (digitsOf (bits a) bytes) (padsOf a bytes) (digits-below (bits a) bytes))
 
 -- two byte strings with one written form are one
 pub written-once : (a : ℕ) → a < 6 → (x y : List ℕ) → Below 256 x → Below 256 y → written a x ≡ written a y → x ≡ y
 written-once a h x y k l e =
     let p : 0 < bits a = omega (arith, bits-low a h) in
     let q : bits a ≤ 8 = omega (arith, bits-high a h) in
-    let u = unique a h (digitsOf (bits a) x) (digitsOf (bits a) y) _ _ (digits-below (bits a) x) (digits-below (bits a) y) (sym (written-is a x) ∙ e ∙ written-is a y) in
+    let u = unique a h (digitsOf (bits a) x) (digitsOf (bits a) y) (padsOf a x) (padsOf a y) (digits-below (bits a) x) (digits-below (bits a) y) (sym (written-is a x) ∙ e ∙ written-is a y) in
     sym (bytes-digits (bits a) x p q k) ∙ ap (bytesOf (bits a)) (u .0) ∙ bytes-digits (bits a) y p q l

@@ -1,7 +1,7 @@
 -- A text is canonical exactly if it is spelled by digits whose left-over bits are spare and zero. Assumes nothing.
 use Prim.Native.Nat.{ℕ, zero, suc, _+_, _-_, _*_, _/_, _%_, _^_, _<_, _≤_}
 use mathlib.Core.Path.{_≡_, refl, sym, ap, _∙_, subst}
-use mathlib.Core.Logic.{_⊎_, inl, inr}
+use mathlib.Core.Logic.{_↔_}
 use mathlib.Core.Bool.{Bool, true, false, cond, _&&_}
 use mathlib.Core.List.{List, [], _∷_, _++_}
 use native.Mathlib.Nat.{mod-lt, mod-self, mod-eq-of-lt, sub-zero, mul-assoc, mul-add, div-add-mod}
@@ -14,8 +14,8 @@ use Rattle.alphabet.specs.Bits.{Below}
 use Rattle.alphabet.proofs.BitLaws.{Regrouped}
 use Rattle.alphabet.specs.Digits.{digitsOf, bytesOf, leftOf, Whole}
 use Rattle.alphabet.proofs.DigitLaws.{digits-whole, digits-bytes, digits-below, bytes-below, regrouped}
-use Rattle.alphabet.specs.Alphabet.{bits, group, tail}
-use Rattle.alphabet.proofs.AlphabetLaws.{bits-low, bits-high, group-pos, group-whole, tail-is}
+use Rattle.alphabet.specs.Alphabet.{bits, group, tail, spare}
+use Rattle.alphabet.proofs.AlphabetLaws.{bits-low, bits-high, group-pos, group-whole, tail-is, spare-tail}
 use Rattle.alphabet.specs.Written.{wanting, spelled, written, Canonical}
 
 -- ---- canonical texts, by their digits
@@ -70,11 +70,12 @@ and-true-right : (p q : Bool) → p && q ≡ true → q ≡ true
 and-true-right true q e = e
 and-true-right false q e = absurd (subst T (sym e) tt)
 
--- a digit count in the tail table
+-- a digit count in the tail table, with its pads and its spare bits
 pub record InTable (a d : ℕ) : Type 0 where
   pub some : 0 < d
   pub few : bits a * d % 8 < bits a
   pub pads : tail a d ≡ group a - d
+  pub spares : spare a (tail a d) ≡ bits a * d % 8
 
 pub in-table : (a : ℕ) → a < 6 → (d : ℕ) → d < group a → 0 < tail a d → InTable a d
 in-table a h d l p = go (ltb 0 d && ltb (bits a * d % 8) (bits a)) refl
@@ -85,11 +86,17 @@ in-table a h d l p = go (ltb 0 d && ltb (bits a * d % 8) (bits a)) refl
           some = ltb-true 0 d (and-true-left (ltb 0 d) (ltb (bits a * d % 8) (bits a)) e);
           few = ltb-true (bits a * d % 8) (bits a) (and-true-right (ltb 0 d) (ltb (bits a * d % 8) (bits a)) e);
           pads = tail-is a h l ∙ ap (λ (t : Bool). cond t (group a - d) 0) e;
+          spares = spare-tail a h l p .0;
         }
     go false e = absurd (omega (arith, tail-is a h l ∙ ap (λ (t : Bool). cond t (group a - d) 0) e))
 
 pub table-in : (a : ℕ) → a < 6 → (d : ℕ) → d < group a → 0 < d → bits a * d % 8 < bits a → tail a d ≡ group a - d
 table-in a h d l p q = tail-is a h l ∙ rw (lt-ltb 0 d p, lt-ltb (bits a * d % 8) (bits a) q)
+
+-- the tail table has exactly the digit counts that leave fewer bits than a digit has
+pub tail-table : (a : ℕ) → a < 6 → (d : ℕ) → d < group a → (0 < tail a d) ↔ ((0 < d) × (bits a * d % 8 < bits a))
+tail-table a h d l =
+    (λ p. let t : InTable a d = in-table a h d l p in (t .some, t .few), λ p. omega (arith, table-in a h d l (p .0) (p .1)))
 
 -- whole digits fill their last group, or want the pads of the tail table
 pub whole-tail : (a : ℕ) → a < 6 → (ds : List ℕ) → Whole (bits a) ds → 0 < length ds % group a → tail a (length ds % group a) ≡ wanting (group a) (length ds)
