@@ -6,3 +6,5 @@ pub mod LaxComplete
 pub mod Continuations
 pub mod Final
 pub mod Outcomes
+pub mod Positions
+pub mod Shared
