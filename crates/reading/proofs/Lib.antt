@@ -8,3 +8,6 @@ pub mod Final
 pub mod Outcomes
 pub mod Positions
 pub mod Shared
+pub mod Counting
+pub mod Fronts
+pub mod Meaning
