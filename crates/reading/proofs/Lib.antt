@@ -11,3 +11,4 @@ pub mod Shared
 pub mod Counting
 pub mod Fronts
 pub mod Meaning
+pub mod PieceLaws
