@@ -12,3 +12,4 @@ pub mod Counting
 pub mod Fronts
 pub mod Meaning
 pub mod PieceLaws
+pub mod PieceLimit

@@ -34,16 +34,16 @@ pub record RunFeeds (a opts : ℕ) (piece : List ℕ) (s : State) (room : ℕ) (
   pub full-room : r .why ≡ full → length (r .wrote) ≡ room
   pub full-step : r .why ≡ full → NeedsRoom a opts (r .state) (getD piece (r .took) 0)
 
-all-full : all ≡ full → ⊥
+pub all-full : all ≡ full → ⊥
 all-full e = let z : _≡_ {A = ℕ} 0 1 = cc in omega arith
 
-all-refused : {k : ℕ} → all ≡ refused k → ⊥
+pub all-refused : {k : ℕ} → all ≡ refused k → ⊥
 all-refused e = let z : _≡_ {A = ℕ} 0 1 = cc in omega arith
 
-full-refused : {k : ℕ} → full ≡ refused k → ⊥
+pub full-refused : {k : ℕ} → full ≡ refused k → ⊥
 full-refused e = let z : _≡_ {A = ℕ} 0 1 = cc in omega arith
 
-refused-same : {j k : ℕ} → refused j ≡ refused k → j ≡ k
+pub refused-same : {j k : ℕ} → refused j ≡ refused k → j ≡ k
 refused-same e = cc
 
 module _ (a opts : ℕ) where

@@ -46,6 +46,15 @@ step-moves a opts s c =
     (either s (isDigit a (turned a opts c)) (digit-moves a s (value a (turned a opts c)))
     (either s (isPad a c) (pad-moves a opts s) (blamed {k = 4} (omega arith) (omega arith))))
 
+-- a byte is refused by one of the answers 4 to 7
+pub refuses-range : (a opts : ℕ) (s : State) (c k : ℕ) → step a opts s c ≡ refuses k → (4 ≤ k) × (k ≤ 7)
+refuses-range a opts s c k e = go (step-moves a opts s c) e
+  where
+    go : {x : Step} → Moves s x → x ≡ refuses k → (4 ≤ k) × (k ≤ 7)
+    go (took m) e = absurd (let z : _≡_ {A = ℕ} 0 1 = cc in omega arith)
+    go (gave m) e = absurd (let z : _≡_ {A = ℕ} 0 1 = cc in omega arith)
+    go (blamed {k = j} l m) e = let z : j ≡ k = cc in (omega arith, omega arith)
+
 -- ---- a text
 
 -- the bytes that a reader has given
