@@ -13,3 +13,4 @@ pub mod Fronts
 pub mod Meaning
 pub mod PieceLaws
 pub mod PieceLimit
+pub mod PieceCuts
