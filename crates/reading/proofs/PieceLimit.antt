@@ -35,7 +35,7 @@ pub record PieceFeeds (a opts : ℕ) (piece : List ℕ) (s : State) (room : ℕ)
 
 -- ---- why, at the limit
 
-not-all : (w : Why) → whyAtLimit w ≡ all → ⊥
+pub not-all : (w : Why) → whyAtLimit w ≡ all → ⊥
 unfolding whyAtLimit
 not-all all e = all-refused (sym e)
 not-all (refused k) e = all-refused (sym e)
