@@ -6,3 +6,11 @@ pub mod LaxComplete
 pub mod Continuations
 pub mod Final
 pub mod Outcomes
+pub mod Positions
+pub mod Shared
+pub mod Counting
+pub mod Fronts
+pub mod Meaning
+pub mod PieceLaws
+pub mod PieceLimit
+pub mod PieceCuts

@@ -4,3 +4,4 @@ pub mod Cleaning
 pub mod Reader
 pub mod Continuation
 pub mod Piece
+pub mod Promises
