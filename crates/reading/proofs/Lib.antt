@@ -14,3 +14,5 @@ pub mod Meaning
 pub mod PieceLaws
 pub mod PieceLimit
 pub mod PieceCuts
+pub mod StepLaws
+pub mod RunSteps
