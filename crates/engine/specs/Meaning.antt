@@ -1,11 +1,9 @@
 -- What the engine's types mean in the definitions of `reading`: its state, what a byte does, why it refuses. Assumes nothing.
-use Prim.Native.Nat.{ℕ, _+_, _<_, _≤_, _^_}
-use mathlib.Core.Bool.{Bool, cond}
-use lib.Dec.{eqb, ltb}
-use Rattle.alphabet.specs.Alphabet.{value, isDigit, isPad}
+use Prim.Native.Nat.{ℕ, _<_, _≤_, _^_}
+use mathlib.Core.Bool.{cond, not, _&&_}
+use lib.Dec.{eqb}
 use Rattle.reading.specs.Options.{anySpare}
 use Rattle.reading.specs.Limit.{limit}
-use Rattle.reading.specs.Cleaning.{dropped, turned}
 use Rattle.reading.specs.Reader.{State, Step, takes, gives, refuses, heldBits}
 use Rattle.engine.specs.declared.rule.Core.{Core}
 use Rattle.engine.specs.declared.rule.Cause.{Cause}
@@ -14,8 +12,6 @@ use Rattle.engine.specs.declared.rule.Took.{Took}
 use Rattle.engine.specs.declared.rule.Took.the-variants as T
 use Rattle.engine.specs.declared.rule.End.{End}
 use Rattle.engine.specs.declared.rule.End.the-variants as E
-use Rattle.engine.specs.declared.rule.Class.{Class}
-use Rattle.engine.specs.declared.rule.Class.the-variants as K
 
 abbrev pub stateOf : Core → State
 stateOf k = record { digits = k .digits; held = k .held; pads = k .pads; taken = k .taken }
@@ -38,16 +34,9 @@ abbrev pub endOf : End → ℕ
 endOf E.Whole = 0
 endOf (E.Refused c) = number c
 
--- (b) and (c) of the order in which a byte is looked at: what it is
-unfoldable pub classOf : ℕ → ℕ → ℕ → Class
-classOf a opts c =
-    cond (dropped opts c) K.Dropped
-    (cond (isDigit a (turned a opts c)) (K.Digit (value a (turned a opts c)))
-    (cond (isPad a c) K.Pad K.Foreign))
-
--- the end where padding is wholly absent and may be
-unfoldable pub unpaddedEnd : ℕ → ℕ → End
-unpaddedEnd opts held = cond (eqb held 0) E.Whole (cond (anySpare opts) E.Whole (E.Refused C.Spare))
+-- the end where padding is wholly absent and may be: a digit count outside the table, or spare bits without SPARE, are refused
+unfoldable pub unpaddedEnd : ℕ → ℕ → ℕ → ℕ
+unpaddedEnd opts wants held = cond (eqb wants 0) 8 (cond (not (eqb held 0) && not (anySpare opts)) 6 0)
 
 -- the numbers of a state that text gives, before one byte more
 pub record Fit (a : ℕ) (k : Core) : Type 0 where

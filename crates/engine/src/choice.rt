@@ -1,5 +1,6 @@
 // The one test of a choice: an alphabet above 5, options above 31, or CASE with alphabet 0 or 1 is answered 1.
 ghost use mathlib.Core.Path.{_≡_};
+ghost use Prim.Native.Nat.{_<_};
 ghost use Rattle.reading.specs.Options as spec;
 
 // Whether the option of a weight is set in the sum.

@@ -1,15 +1,14 @@
 // The reader's rule: what one byte does in a state, and what the end of the text gives, in the order of 01's (b) to (f).
 use alphabet::regroup::Fed;
 use alphabet::table::Symbol;
+use crate::choice::chosen;
 ghost use mathlib.Core.Path.{_≡_};
-ghost use Prim.Native.Nat.{_<_, _≤_, _^_};
-ghost use mathlib.Core.Bool.{true, false};
+ghost use Prim.Native.Nat.{_<_, _%_, _^_};
 ghost use Rattle.alphabet.specs.Alphabet as Alphabet;
 ghost use Rattle.alphabet.specs.Table.{entries};
-ghost use Rattle.reading.specs.Options as Options;
 ghost use Rattle.reading.specs.Cleaning as Cleaning;
 ghost use Rattle.reading.specs.Reader as Reader;
-ghost use Rattle.engine.specs.Meaning.{stateOf, stepOf, endOf, classOf, unpaddedEnd, Fit};
+ghost use Rattle.engine.specs.Meaning.{stateOf, stepOf, endOf, unpaddedEnd, Fit};
 
 // Digits and pads so far, the bits that no byte has yet, and the bytes of text taken.
 pub struct Core {
@@ -42,21 +41,15 @@ pub enum End {
     Refused(Cause),
 }
 
-// What a byte is under the options.
-pub enum Class {
-    Digit(u8),
-    Pad,
-    Dropped,
-    Foreign,
-}
-
 // Whether LINES or BLANK drops the byte.
 fn dropped(options: usize, byte: u8) -> bool
     ensures { λ r. ⌜ r ≡ Cleaning.dropped options byte ⌝ }
 {
     match byte {
-        13 | 10 => options % 2 == 1,
-        32 | 9 => options / 2 % 2 == 1,
+        13 => chosen(1, options),
+        10 => chosen(1, options),
+        32 => chosen(2, options),
+        9 => chosen(2, options),
         _ => false,
     }
 }
@@ -65,7 +58,7 @@ fn dropped(options: usize, byte: u8) -> bool
 fn turned(alphabet: usize, options: usize, byte: u8) -> u8
     ensures { λ r. ⌜ r ≡ Cleaning.turned alphabet options byte ⌝ }
 {
-    if options / 16 % 2 == 1 {
+    if chosen(16, options) {
         if alphabet == 5 {
             return lower(byte);
         }
@@ -96,38 +89,8 @@ fn upper(byte: u8) -> u8
     byte
 }
 
-// A byte that is no digit as it stands: dropped, a digit of the other case, a pad, or foreign.
-fn other(t: &[u8; 1536], alphabet: usize, options: usize, byte: u8) -> Class
-    requires { ⌜ now t ≡ entries ⌝ }
-    requires { ⌜ alphabet < 6 ⌝ }
-    ensures { λ r. ⌜ r ≡ classOf alphabet options byte ⌝ }
-{
-    if dropped(options, byte) {
-        return Class::Dropped;
-    }
-    let turn = turned(alphabet, options, byte);
-    match alphabet::table::lookup(t, alphabet, turn) {
-        Symbol::Digit(v) => Class::Digit(v),
-        Symbol::Pad => Class::Pad,
-        Symbol::Neither => Class::Foreign,
-    }
-}
-
-// What a byte is. A digit as it stands is neither dropped nor turned, so that it is looked up first.
-fn class(t: &[u8; 1536], alphabet: usize, options: usize, byte: u8) -> Class
-    requires { ⌜ now t ≡ entries ⌝ }
-    requires { ⌜ Options.allowed alphabet options ≡ true ⌝ }
-    ensures { λ r. ⌜ r ≡ classOf alphabet options byte ⌝ }
-{
-    match alphabet::table::lookup(t, alphabet, byte) {
-        Symbol::Digit(v) => Class::Digit(v),
-        Symbol::Pad => other(t, alphabet, options, byte),
-        Symbol::Neither => other(t, alphabet, options, byte),
-    }
-}
-
 // A digit of value v and b bits: after padding it is refused; else its bits join the held ones, and perhaps complete a byte.
-fn on_digit(alphabet: usize, b: usize, k: Core, v: u8) -> Took
+pub(crate) fn on_digit(alphabet: usize, b: usize, k: Core, v: u8) -> Took
     requires { ⌜ b ≡ Alphabet.bits alphabet ⌝ }
     requires { ⌜ alphabet < 6 ⌝ }
     requires { ⌜ Fit alphabet k ⌝ }
@@ -163,13 +126,22 @@ fn on_digit(alphabet: usize, b: usize, k: Core, v: u8) -> Took
     }
 }
 
-// The pads that the last group wants.
-fn wants(alphabet: usize, digits: usize) -> usize
-    requires { ⌜ alphabet < 6 ⌝ }
-    ensures { λ r. ⌜ r ≡ Alphabet.tail alphabet (digits % Alphabet.group alphabet) ⌝ }
+// The digits of the last group.
+fn last_group(alphabet: usize, digits: usize) -> usize
+    ensures { λ r. ⌜ r ≡ digits % Alphabet.group alphabet ⌝ }
 {
     let g = alphabet::sizes::group(alphabet);
-    let d = digits % g;
+    if g == 0 {
+        return digits;
+    }
+    digits % g
+}
+
+// The pads that the last group wants.
+fn wants(alphabet: usize, digits: usize) -> usize
+    ensures { λ r. ⌜ r ≡ Alphabet.tail alphabet (digits % Alphabet.group alphabet) ⌝ }
+{
+    let d = last_group(alphabet, digits);
     alphabet::sizes::tail(alphabet, d)
 }
 
@@ -202,29 +174,32 @@ fn on_pad(alphabet: usize, options: usize, k: Core) -> Took
     if held == 0 {
         return Took::Takes(more);
     }
-    if options / 8 % 2 == 1 {
+    if chosen(8, options) {
         return Took::Takes(more);
     }
     Took::Refuses(Cause::Spare)
 }
 
-// What one byte does, by what it is.
-pub(crate) fn take(t: &[u8; 1536], alphabet: usize, options: usize, b: usize, k: Core, byte: u8) -> Took
+// What any byte does. A loop asks it for bytes that are no digit as they stand, and `on_digit` for those that are.
+pub(crate) fn rare(t: &[u8; 1536], alphabet: usize, options: usize, k: Core, byte: u8) -> Took
     requires { ⌜ now t ≡ entries ⌝ }
-    requires { ⌜ Options.allowed alphabet options ≡ true ⌝ }
-    requires { ⌜ b ≡ Alphabet.bits alphabet ⌝ }
+    requires { ⌜ alphabet < 6 ⌝ }
     requires { ⌜ Fit alphabet k ⌝ }
     ensures { λ r. ⌜ stepOf r ≡ Reader.step alphabet options (stateOf k) byte ⌝ }
 {
-    match class(t, alphabet, options, byte) {
-        Class::Digit(v) => on_digit(alphabet, b, k, v),
-        Class::Pad => on_pad(alphabet, options, k),
-        Class::Dropped => {
-            let mut passed = k;
-            passed.taken = k.taken + 1;
-            Took::Takes(passed)
+    if dropped(options, byte) {
+        let mut passed = k;
+        passed.taken = k.taken + 1;
+        return Took::Takes(passed);
+    }
+    let turn = turned(alphabet, options, byte);
+    match alphabet::table::lookup(t, alphabet, turn) {
+        Symbol::Digit(v) => {
+            let b = alphabet::sizes::bits(alphabet);
+            on_digit(alphabet, b, k, v)
         }
-        Class::Foreign => Took::Refuses(Cause::Foreign),
+        Symbol::Pad => on_pad(alphabet, options, k),
+        Symbol::Neither => Took::Refuses(Cause::Foreign),
     }
 }
 
@@ -235,9 +210,6 @@ pub fn ending(alphabet: usize, options: usize, k: Core) -> End
     let digits = k.digits;
     let held = k.held;
     let pads = k.pads;
-    if 6 <= alphabet {
-        return End::Refused(Cause::Short);
-    }
     let w = wants(alphabet, digits);
     if 0 < pads {
         if pads == w {
@@ -245,27 +217,27 @@ pub fn ending(alphabet: usize, options: usize, k: Core) -> End
         }
         return End::Refused(Cause::Short);
     }
-    let g = alphabet::sizes::group(alphabet);
-    if digits % g == 0 {
+    let d = last_group(alphabet, digits);
+    if d == 0 {
         return End::Whole;
     }
-    if w == 0 {
-        return End::Refused(Cause::Short);
-    }
-    if options / 4 % 2 == 1 {
-        return unpadded(options, held);
+    if chosen(4, options) {
+        return unpadded(options, w, held);
     }
     End::Refused(Cause::Short)
 }
 
-// Padding is wholly absent and may be: the spare bits are zero, or SPARE is set.
-fn unpadded(options: usize, held: u8) -> End
-    ensures { λ r. ⌜ r ≡ unpaddedEnd options held ⌝ }
+// Padding is wholly absent and may be: the digit count is in the table, and the spare bits are zero or SPARE is set.
+fn unpadded(options: usize, wants: usize, held: u8) -> End
+    ensures { λ r. ⌜ endOf r ≡ unpaddedEnd options wants held ⌝ }
 {
+    if wants == 0 {
+        return End::Refused(Cause::Short);
+    }
     if held == 0 {
         return End::Whole;
     }
-    if options / 8 % 2 == 1 {
+    if chosen(8, options) {
         return End::Whole;
     }
     End::Refused(Cause::Spare)
