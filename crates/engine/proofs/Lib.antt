@@ -1,1 +1,3 @@
 pub mod ByCases
+pub mod Steps
+pub mod Bytes

@@ -229,7 +229,7 @@ accepted-closed a h opts ds p l c =
 
 -- ---- a text of closed digits and pads is read to its end
 
-turned-back : (a opts c : ℕ) → turned a opts c ≡ pad → c ≡ pad
+pub turned-back : (a opts c : ℕ) → turned a opts c ≡ pad → c ≡ pad
 unfolding turned upper lower
 turned-back a opts c e = go (anyCase opts) (eqb a 5) (leb 65 c) refl (leb c 90) refl (leb 97 c) refl (leb c 122) refl e
   where

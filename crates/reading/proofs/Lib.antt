@@ -16,3 +16,5 @@ pub mod PieceLimit
 pub mod PieceCuts
 pub mod StepLaws
 pub mod RunSteps
+pub mod LimitLaws
+pub mod StepCases

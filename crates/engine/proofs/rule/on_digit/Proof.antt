@@ -1,45 +1,49 @@
+-- `rule::on_digit`: after padding a refusal, else what the regrouping step gives. Assumes nothing.
+use mathlib.Core.Path.{sym, ap, _∙_}
+use native.Mathlib.Omega.{arith}
+use borrow.Author.Tests.{lt-ltb}
+use Rattle.reading.specs.Reader.{onDigit, heldBits}
+use Rattle.engine.specs.Meaning.{number}
+use Rattle.engine.proofs.Steps.{product-fits, taken-fits, digits-fit, digit-held, digit-gives}
 use borrow.Author.Needs.{needs}
 use Rattle.engine.proofs.rule.on_digit.Statement.{statement}
 use Rattle.engine.proofs.rule.on_digit.Tie as tie
-use Rattle.engine.proofs.rule.on_digit.Reads as reads
-use Rattle.engine.proofs.rule.on_digit.Lts as lts
-use Rattle.alphabet.proofs.regroup.feed.Reads as feed-reads
 
--- src/rule.rt:103:9
 returns : tie.Need-returns
-returns c = ?
+unfolding onDigit number
+returns c = simp (lt-ltb _ _ (c .if1 .taken))
 
--- src/rule.rt:105:13
 mul-r : tie.Need-mul-r
-mul-r c = ?
+mul-r c = let p = c .before .pre in rw (p .0) (omega (arith, product-fits _ (p .1 .0) _ (p .1 .1 .0)))
 
--- src/rule.rt:106:13
 add-d : tie.Need-add-d
-add-d c = ?
+add-d c = let p = c .before .pre in omega (arith, digits-fit _ (p .1 .0) _ (p .1 .1 .0))
 
--- src/rule.rt:107:16
 add-next : tie.Need-add-next
-add-next c = ?
+add-next c = let p = c .before .pre in omega (arith, taken-fits _ (p .1 .0) _ (p .1 .1 .0))
 
--- src/rule.rt:108:11
 feed-requires : tie.Need-feed-requires
 feed-requires c κs = search needs
 
--- src/rule.rt:109:19
 enum-known-h : tie.Need-enum-known-h
 enum-known-h c = search needs
 
--- src/rule.rt:115:19
 enum-known-x : tie.Need-enum-known-x
 enum-known-x c = search needs
 
--- src/rule.rt:91:1
 returns-2 : tie.Need-returns-2
-returns-2 c = ?
+unfolding heldBits
+returns-2 c = 
+    let s = c .before .before .before .before in
+    let p = s .before .pre in
+    digit-held _ (p .1 .0) _ (p .1 .1 .0) (p .1 .1 .1) (s .if1 .left) (rw (← p .0) (sym (c .before .before .before .feed .ensures) ∙ c .before .h .given .1))
 
--- src/rule.rt:91:1
 returns-3 : tie.Need-returns-3
-returns-3 c = ?
+unfolding heldBits
+returns-3 c = 
+    let s = c .before .before .before .before in
+    let p = s .before .pre in
+    digit-gives _ (p .1 .0) _ (p .1 .1 .0) (p .1 .1 .1) (s .if1 .left) (rw (← p .0) (sym (c .before .before .before .feed .ensures) ∙ c .before .x .given .1))
 
 pub on-digit-spec : {M : Type 1} → statement M
 on-digit-spec =

@@ -1,70 +1,78 @@
+-- `rule::rare`: a dropped byte passes, and any other does what its symbol says. Assumes nothing.
+use mathlib.Core.Path.{sym, ap, _∙_}
+use native.Mathlib.Omega.{arith}
+use Rattle.alphabet.specs.Table.{symbolIn}
+use Rattle.reading.specs.Reader.{passes}
+use Rattle.reading.proofs.StepCases.{step-dropped}
+use Rattle.engine.specs.Meaning.{number}
+use Rattle.engine.proofs.Steps.{taken-fits}
+use Rattle.engine.proofs.Bytes.{turned-digit, turned-pad, turned-neither}
 use borrow.Author.Needs.{needs}
 use Rattle.engine.proofs.rule.rare.Statement.{statement}
 use Rattle.engine.proofs.rule.rare.Tie as tie
-use Rattle.engine.proofs.rule.rare.Reads as reads
-use Rattle.engine.proofs.rule.rare.Lts as lts
-use Rattle.alphabet.proofs.sizes.bits.Reads as bits-reads
-use Rattle.alphabet.proofs.table.lookup.Reads as lookup-reads
-use Rattle.engine.proofs.rule.dropped.Reads as dropped-reads
-use Rattle.engine.proofs.rule.on_digit.Reads as on-digit-reads
-use Rattle.engine.proofs.rule.on_pad.Reads as on-pad-reads
-use Rattle.engine.proofs.rule.turned.Reads as turned-reads
 
--- src/rule.rt:179:8
 dropped-requires : tie.Need-dropped-requires
 dropped-requires c κs = search needs
 
--- src/rule.rt:181:24
 add-passed : tie.Need-add-passed
-add-passed c = ?
+add-passed c = let p = c .before .before .before .pre in omega (arith, taken-fits _ (p .1 .0) _ (p .1 .1))
 
--- src/rule.rt:182:9
 returns : tie.Need-returns
-returns c = ?
+unfolding passes
+returns c = sym (step-dropped _ _ _ _ (sym (c .before .before .dropped .ensures) ∙ c .before .if1 .taken))
 
--- src/rule.rt:184:9
 turned-requires : tie.Need-turned-requires
 turned-requires c κs = search needs
 
--- src/rule.rt:185:11
 lookup-requires : tie.Need-lookup-requires
 lookup-requires c κs = search needs
 
--- src/rule.rt:186:23
 enum-known-v : tie.Need-enum-known-v
 enum-known-v c = search needs
 
--- src/rule.rt:187:17
 bits-requires : tie.Need-bits-requires
 bits-requires c κs = search needs
 
--- src/rule.rt:188:13
 on-digit-requires : tie.Need-on-digit-requires
-on-digit-requires c κs = ?
+on-digit-requires c κs = 
+    let l = c .before .before .before .before in
+    let n = l .before in
+    let s = n .before .before .before in
+    let d = turned-digit _ _ _ _ (s .pre .0) (s .pre .1 .0) (sym (n .before .before .dropped .ensures) ∙ n .before .if1 .left) (n .turned .ensures) (search needs) (sym (l .lookup .ensures) ∙ c .before .before .v .given .1) in
+    (c .bits .ensures, (s .pre .1 .0, (s .pre .1 .1, d .small)))
 
--- src/rule.rt:190:24
 enum-told : tie.Need-enum-told
 enum-told c = search needs
 
--- src/rule.rt:190:24
 on-pad-requires : tie.Need-on-pad-requires
 on-pad-requires c κs = search needs
 
--- src/rule.rt:191:42
 enum-told-2 : tie.Need-enum-told-2
 enum-told-2 c = search needs
 
--- src/rule.rt:173:1
 returns-2 : tie.Need-returns-2
-returns-2 c = ?
+returns-2 c = 
+    let l = c .before .before .before .before .before in
+    let n = l .before in
+    let s = n .before .before .before in
+    let d = turned-digit _ _ _ _ (s .pre .0) (s .pre .1 .0) (sym (n .before .before .dropped .ensures) ∙ n .before .if1 .left) (n .turned .ensures) (search needs) (sym (l .lookup .ensures) ∙ c .before .before .before .v .given .1) in
+    c .on-digit .ensures ∙ sym (d .is)
 
--- src/rule.rt:173:1
 returns-3 : tie.Need-returns-3
-returns-3 c = ?
+returns-3 c = 
+    let l = c .before .before .before in
+    let n = l .before in
+    let s = n .before .before .before in
+    c .on-pad .ensures
+    ∙ sym (turned-pad _ _ _ _ (s .pre .0) (s .pre .1 .0) (sym (n .before .before .dropped .ensures) ∙ n .before .if1 .left) (n .turned .ensures) (search needs) (sym (l .lookup .ensures) ∙ c .before .enum-told .given .1))
 
--- src/rule.rt:173:1
 returns-4 : tie.Need-returns-4
-returns-4 c = ?
+unfolding number
+returns-4 c = 
+    let l = c .before .before in
+    let n = l .before in
+    let s = n .before .before .before in
+    sym (turned-neither _ _ _ _ (s .pre .0) (s .pre .1 .0) (sym (n .before .before .dropped .ensures) ∙ n .before .if1 .left) (n .turned .ensures) (search needs) (sym (l .lookup .ensures) ∙ c .enum-told2 .given .1))
 
 pub rare-spec : {M : Type 1} → statement M
 rare-spec =
