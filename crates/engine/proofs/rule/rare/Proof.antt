@@ -4,7 +4,7 @@ use native.Mathlib.Omega.{arith}
 use Rattle.alphabet.specs.Table.{symbolIn}
 use Rattle.reading.specs.Reader.{passes}
 use Rattle.reading.proofs.StepCases.{step-dropped}
-use Rattle.engine.specs.Meaning.{number}
+use Rattle.engine.specs.Meaning.{stateOf, number}
 use Rattle.engine.proofs.Steps.{taken-fits}
 use Rattle.engine.proofs.Bytes.{turned-digit, turned-pad, turned-neither}
 use borrow.Author.Needs.{needs}
@@ -38,7 +38,7 @@ on-digit-requires c κs =
     let l = c .before .before .before .before in
     let n = l .before in
     let s = n .before .before .before in
-    let d = turned-digit _ _ _ _ (s .pre .0) (s .pre .1 .0) (sym (n .before .before .dropped .ensures) ∙ n .before .if1 .left) (n .turned .ensures) (search needs) (sym (l .lookup .ensures) ∙ c .before .before .v .given .1) in
+    let d = turned-digit _ _ _ (stateOf (s .args .k)) (s .pre .0) (s .pre .1 .0) (sym (n .before .before .dropped .ensures) ∙ n .before .if1 .left) (n .turned .ensures) (search needs) (sym (l .lookup .ensures) ∙ c .before .before .v .given .1) in
     (c .bits .ensures, (s .pre .1 .0, (s .pre .1 .1, d .small)))
 
 enum-told : tie.Need-enum-told
