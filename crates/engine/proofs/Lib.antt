@@ -1,3 +1,4 @@
 pub mod ByCases
 pub mod Steps
 pub mod Bytes
+pub mod Loops

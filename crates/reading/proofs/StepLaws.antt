@@ -14,12 +14,8 @@ use Rattle.alphabet.proofs.AlphabetLaws.{bits-high}
 use Rattle.reading.specs.Options.{anySpare}
 use Rattle.reading.specs.Cleaning.{dropped, turned}
 use Rattle.reading.specs.Reader.{State, Step, takes, gives, refuses, fresh, wants, heldBits, passes, onDigit, onPad, step}
+use Rattle.reading.specs.Sound.{Sound}
 use Rattle.reading.proofs.Judging.{is-digit}
-
-pub record Sound (a : ℕ) (s : State) : Type 0 where
-  pub held : s .held < 2 ^ heldBits a s
-  pub digits : s .digits ≤ s .taken
-  pub pads : s .pads ≤ s .taken
 
 pub fresh-sound : (a : ℕ) → Sound a fresh
 unfolding heldBits

@@ -1,0 +1,132 @@
+// The loops over a piece: into a second buffer, in place, and counting alone. Each takes the table once, and asks `on_digit` for a byte that
+// is a digit as it stands and `rare` for any other, so that the common byte costs no call.
+use alphabet::table::Symbol;
+use crate::rule::Cause;
+use crate::rule::Core;
+use crate::rule::Took;
+use crate::rule::on_digit;
+use crate::rule::rare;
+ghost use mathlib.Core.Path.{_≡_};
+ghost use mathlib.Core.Bool.{true};
+ghost use lib.ListN.{length};
+ghost use Rattle.alphabet.specs.Table.{entries};
+ghost use Rattle.reading.specs.Options as Options;
+ghost use Rattle.reading.specs.Limit as Limit;
+ghost use Rattle.reading.specs.Piece as Piece;
+ghost use Rattle.engine.specs.Meaning.{stateOf};
+ghost use Rattle.engine.specs.Ran.{Ready, ranAs, filled};
+
+// Why a run over a piece stopped. Unfit: the choice or the state is none that reading starts from, and nothing was done.
+pub enum Why {
+    All,
+    Refused(Cause),
+    Full,
+    Unfit,
+}
+
+// The state then, why it stopped, how many bytes it took and how many it gave.
+pub struct Ran {
+    pub core: Core,
+    pub why: Why,
+    pub took: usize,
+    pub wrote: usize,
+}
+
+// The limit L of 01, the one place of its number in code.
+pub fn limit() -> usize
+    ensures { λ r. ⌜ r ≡ Limit.limit ⌝ }
+{
+    16777216
+}
+
+// The state before any text.
+pub fn fresh() -> Core
+    ensures { λ r. ⌜ r ≡ record { digits = 0; held = 0; pads = 0; taken = 0 } ⌝ }
+{
+    Core {
+        digits: 0,
+        held: 0,
+        pads: 0,
+        taken: 0,
+    }
+}
+
+fn fill(t: &[u8; 1536], alphabet: usize, options: usize, start: Core, piece: &[u8], out: &mut [u8]) -> Ran
+    requires { ⌜ now t ≡ entries ⌝ }
+    requires { ⌜ Options.allowed alphabet options ≡ true ⌝ }
+    requires { ⌜ Ready alphabet start (length (now piece)) ⌝ }
+    ensures { λ r. ⌜ r ≡ ranAs (Piece.run alphabet options (now (piece .entry)) (stateOf start) (length (now (out .entry)))) ⌝ }
+    ensures { λ r. ⌜ now (out .exit) ≡ filled (Piece.run alphabet options (now (piece .entry)) (stateOf start) (length (now (out .entry))) .wrote) (now (out .entry)) ⌝ }
+{
+    let b = alphabet::sizes::bits(alphabet);
+    let mut k = start;
+    let mut i: usize = 0;
+    let mut n: usize = 0;
+    while i < piece.len() {
+        let byte = piece[i];
+        match alphabet::table::lookup(t, alphabet, byte) {
+            Symbol::Digit(v) => match on_digit(alphabet, b, k, v) {
+                Took::Takes(c) => {
+                    k = c;
+                    i += 1;
+                }
+                Took::Gives(x, c) => {
+                    if n == out.len() {
+                        return Ran {
+                            core: k,
+                            why: Why::Full,
+                            took: i,
+                            wrote: n,
+                        };
+                    }
+                    out[n] = x;
+                    n += 1;
+                    k = c;
+                    i += 1;
+                }
+                Took::Refuses(e) => {
+                    return Ran {
+                        core: k,
+                        why: Why::Refused(e),
+                        took: i,
+                        wrote: n,
+                    };
+                }
+            },
+            _ => match rare(t, alphabet, options, k, byte) {
+                Took::Takes(c) => {
+                    k = c;
+                    i += 1;
+                }
+                Took::Gives(x, c) => {
+                    if n == out.len() {
+                        return Ran {
+                            core: k,
+                            why: Why::Full,
+                            took: i,
+                            wrote: n,
+                        };
+                    }
+                    out[n] = x;
+                    n += 1;
+                    k = c;
+                    i += 1;
+                }
+                Took::Refuses(e) => {
+                    return Ran {
+                        core: k,
+                        why: Why::Refused(e),
+                        took: i,
+                        wrote: n,
+                    };
+                }
+            },
+        }
+    }
+    Ran {
+        core: k,
+        why: Why::All,
+        took: i,
+        wrote: n,
+    }
+}
