@@ -122,9 +122,49 @@ module _ {a opts : ℕ} {piece : List ℕ} {start : Core} {out₀ out : List ℕ
       record {
         wrote = f .wrote ++ x ∷ [];
         loop = loop-gives h (f .loop) l e q r;
-        front = ap (λ (o : List ℕ). set o n x) (f .front) ∙ stored (f .wrote) out₀ n x (f .loop .going .size) r
+        front = ap (λ (o : List ℕ). set o n x) (f .front) ∙ stored (f .wrote) out₀ n x (f .loop .going .size) r;
       }
 
   pub filling-done : {r : Ran} → Done a opts piece start (length out₀) r (f .wrote)
       → (r ≡ ranAs (run a opts piece (stateOf start) (length out₀))) × (out ≡ filled (run a opts piece (stateOf start) (length out₀) .wrote) out₀)
   filling-done d = (d .is, rw (d .bytes, f .loop .going .size) (f .front))
+
+-- the loop that counts: room for as many bytes as the text has never lacks
+pub record Tally (a opts : ℕ) (text : List ℕ) (start : Core) (k : Core) (i n : ℕ) : Type 0 where
+  pub wrote : List ℕ
+  pub loop : Loop a opts text start (length text) k i n wrote
+  pub behind : n ≤ i
+
+pub tally-begins : (a opts : ℕ) (text : List ℕ) (k : Core) → Ready a k (length text) → Tally a opts text k k 0 0
+tally-begins a opts text k r = record { wrote = []; loop = loop-begins a opts text k (length text) r; behind = zero-le }
+
+module _ {a opts : ℕ} {text : List ℕ} {start : Core} {k : Core} {i n : ℕ} (h : a < 6) (f : Tally a opts text start k i n) where
+  pub tally-takes : {t : Took} {k' : Core} → i < length text → stepOf t ≡ step a opts (stateOf k) (getD text i 0) → t ≡ Takes k' → Tally a opts text start k' (i + 1) n
+  tally-takes l e q = record { wrote = f .wrote; loop = loop-takes h (f .loop) l e q; behind = omega (arith, f .behind) }
+
+  pub tally-gives : {t : Took} {k' : Core} {x : ℕ} → i < length text → stepOf t ≡ step a opts (stateOf k) (getD text i 0) → t ≡ Gives x k' → Tally a opts text start k' (i + 1) (n + 1)
+  tally-gives {x = x} l e q =
+      record { wrote = f .wrote ++ x ∷ []; loop = loop-gives h (f .loop) l e q (omega (arith, f .behind)); behind = omega (arith, f .behind) }
+
+-- the loop in place: the text is the buffer as it came
+pub record Inside (a opts : ℕ) (buf₀ : List ℕ) (start : Core) (buf : List ℕ) (k : Core) (i n : ℕ) : Type 0 where
+  pub fill : Filling a opts buf₀ start buf₀ buf k i n
+  pub behind : n ≤ i
+
+pub inside-begins : (a opts : ℕ) (buf : List ℕ) (k : Core) → Ready a k (length buf) → Inside a opts buf k buf k 0 0
+inside-begins a opts buf k r = record { fill = filling-begins a opts buf k buf r; behind = zero-le }
+
+module _ {a opts : ℕ} {buf₀ : List ℕ} {start : Core} {buf : List ℕ} {k : Core} {i n : ℕ} (h : a < 6) (f : Inside a opts buf₀ start buf k i n) where
+  -- the byte that the code reads is the text's
+  pub inside-reads : getD buf i 0 ≡ getD buf₀ i 0
+  inside-reads = ap (λ (o : List ℕ). getD o i 0) (f .fill .front) ∙ ahead (f .fill .wrote) buf₀ n i (f .fill .loop .going .size) (f .behind)
+
+  pub inside-in : i < length buf → i < length buf₀
+  inside-in l = omega (arith, same-size h (f .fill))
+
+  pub inside-takes : {t : Took} {k' : Core} → i < length buf → stepOf t ≡ step a opts (stateOf k) (getD buf₀ i 0) → t ≡ Takes k' → Inside a opts buf₀ start buf k' (i + 1) n
+  inside-takes l e q = record { fill = filling-takes h (f .fill) (inside-in l) e q; behind = omega (arith, f .behind) }
+
+  pub inside-gives : {t : Took} {k' : Core} {x : ℕ} → i < length buf → stepOf t ≡ step a opts (stateOf k) (getD buf₀ i 0) → t ≡ Gives x k'
+      → Inside a opts buf₀ start (set buf n x) k' (i + 1) (n + 1)
+  inside-gives l e q = record { fill = filling-gives h (f .fill) (inside-in l) e q (omega (arith, f .behind, inside-in l)); behind = omega (arith, f .behind) }

@@ -1,11 +1,12 @@
 // The loops over a piece: into a second buffer, in place, and counting alone. Each takes the table once, and asks `on_digit` for a byte that
 // is a digit as it stands and `rare` for any other, so that the common byte costs no call.
-use alphabet::table::Symbol;
+use crate::choice::allowed;
 use crate::rule::Cause;
 use crate::rule::Core;
 use crate::rule::Took;
 use crate::rule::on_digit;
 use crate::rule::rare;
+use alphabet::table::Symbol;
 ghost use mathlib.Core.Path.{_≡_};
 ghost use mathlib.Core.Bool.{true};
 ghost use lib.ListN.{length};
@@ -14,7 +15,7 @@ ghost use Rattle.reading.specs.Options as Options;
 ghost use Rattle.reading.specs.Limit as Limit;
 ghost use Rattle.reading.specs.Piece as Piece;
 ghost use Rattle.engine.specs.Meaning.{stateOf};
-ghost use Rattle.engine.specs.Ran.{Ready, ranAs, filled};
+ghost use Rattle.engine.specs.Ran.{Ready, ranAs, atLimit, runAs, runBytes, freshAs, freshBytes, filled, small};
 
 // Why a run over a piece stopped. Unfit: the choice or the state is none that reading starts from, and nothing was done.
 pub enum Why {
@@ -51,7 +52,14 @@ pub fn fresh() -> Core
     }
 }
 
-fn fill(t: &[u8; 1536], alphabet: usize, options: usize, start: Core, piece: &[u8], out: &mut [u8]) -> Ran
+fn fill(
+    t: &[u8; 1536],
+    alphabet: usize,
+    options: usize,
+    start: Core,
+    piece: &[u8],
+    out: &mut [u8],
+) -> Ran
     requires { ⌜ now t ≡ entries ⌝ }
     requires { ⌜ Options.allowed alphabet options ≡ true ⌝ }
     requires { ⌜ Ready alphabet start (length (now piece)) ⌝ }
@@ -108,6 +116,133 @@ fn fill(t: &[u8; 1536], alphabet: usize, options: usize, start: Core, piece: &[u
                         };
                     }
                     out[n] = x;
+                    n += 1;
+                    k = c;
+                    i += 1;
+                }
+                Took::Refuses(e) => {
+                    return Ran {
+                        core: k,
+                        why: Why::Refused(e),
+                        took: i,
+                        wrote: n,
+                    };
+                }
+            },
+        }
+    }
+    Ran {
+        core: k,
+        why: Why::All,
+        took: i,
+        wrote: n,
+    }
+}
+
+// Counting alone: room never lacks, since a byte needs more than one byte of text.
+fn tally(t: &[u8; 1536], alphabet: usize, options: usize, start: Core, text: &[u8]) -> Ran
+    requires { ⌜ now t ≡ entries ⌝ }
+    requires { ⌜ Options.allowed alphabet options ≡ true ⌝ }
+    requires { ⌜ Ready alphabet start (length (now text)) ⌝ }
+    ensures { λ r. ⌜ r ≡ ranAs (Piece.run alphabet options (now (text .entry)) (stateOf start) (length (now (text .entry)))) ⌝ }
+{
+    let b = alphabet::sizes::bits(alphabet);
+    let mut k = start;
+    let mut i: usize = 0;
+    let mut n: usize = 0;
+    while i < text.len() {
+        let byte = text[i];
+        match alphabet::table::lookup(t, alphabet, byte) {
+            Symbol::Digit(v) => match on_digit(alphabet, b, k, v) {
+                Took::Takes(c) => {
+                    k = c;
+                    i += 1;
+                }
+                Took::Gives(_, c) => {
+                    n += 1;
+                    k = c;
+                    i += 1;
+                }
+                Took::Refuses(e) => {
+                    return Ran {
+                        core: k,
+                        why: Why::Refused(e),
+                        took: i,
+                        wrote: n,
+                    };
+                }
+            },
+            _ => match rare(t, alphabet, options, k, byte) {
+                Took::Takes(c) => {
+                    k = c;
+                    i += 1;
+                }
+                Took::Gives(_, c) => {
+                    n += 1;
+                    k = c;
+                    i += 1;
+                }
+                Took::Refuses(e) => {
+                    return Ran {
+                        core: k,
+                        why: Why::Refused(e),
+                        took: i,
+                        wrote: n,
+                    };
+                }
+            },
+        }
+    }
+    Ran {
+        core: k,
+        why: Why::All,
+        took: i,
+        wrote: n,
+    }
+}
+
+// In place: the index that is written never passes the one that is read.
+fn settle(t: &[u8; 1536], alphabet: usize, options: usize, start: Core, buf: &mut [u8]) -> Ran
+    requires { ⌜ now t ≡ entries ⌝ }
+    requires { ⌜ Options.allowed alphabet options ≡ true ⌝ }
+    requires { ⌜ Ready alphabet start (length (now buf)) ⌝ }
+    ensures { λ r. ⌜ r ≡ ranAs (Piece.run alphabet options (now (buf .entry)) (stateOf start) (length (now (buf .entry)))) ⌝ }
+    ensures { λ r. ⌜ now (buf .exit) ≡ filled (Piece.run alphabet options (now (buf .entry)) (stateOf start) (length (now (buf .entry))) .wrote) (now (buf .entry)) ⌝ }
+{
+    let b = alphabet::sizes::bits(alphabet);
+    let mut k = start;
+    let mut i: usize = 0;
+    let mut n: usize = 0;
+    while i < buf.len() {
+        let byte = buf[i];
+        match alphabet::table::lookup(t, alphabet, byte) {
+            Symbol::Digit(v) => match on_digit(alphabet, b, k, v) {
+                Took::Takes(c) => {
+                    k = c;
+                    i += 1;
+                }
+                Took::Gives(x, c) => {
+                    buf[n] = x;
+                    n += 1;
+                    k = c;
+                    i += 1;
+                }
+                Took::Refuses(e) => {
+                    return Ran {
+                        core: k,
+                        why: Why::Refused(e),
+                        took: i,
+                        wrote: n,
+                    };
+                }
+            },
+            _ => match rare(t, alphabet, options, k, byte) {
+                Took::Takes(c) => {
+                    k = c;
+                    i += 1;
+                }
+                Took::Gives(x, c) => {
+                    buf[n] = x;
                     n += 1;
                     k = c;
                     i += 1;

@@ -1,7 +1,7 @@
 // The reader's rule: what one byte does in a state, and what the end of the text gives, in the order of 01's (b) to (f).
+use crate::choice::chosen;
 use alphabet::regroup::Fed;
 use alphabet::table::Symbol;
-use crate::choice::chosen;
 ghost use mathlib.Core.Path.{_≡_};
 ghost use Prim.Native.Nat.{_<_, _%_, _^_};
 ghost use Rattle.alphabet.specs.Alphabet as Alphabet;

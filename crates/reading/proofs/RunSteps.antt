@@ -54,10 +54,10 @@ module _ {a opts : ℕ} {piece : List ℕ} {s₀ : State} {room : ℕ} {s : Stat
     size = g .size;
     fits = g .fits;
     same =
-      g .same
-      ∙ ap (λ (r : Ran). after i wrote r) (peel h ∙ ap (λ (t : Step). onStep s t (λ m. run a opts (drop (i + 1) piece) m (room - n)) (room - n) (λ m r. run a opts (drop (i + 1) piece) m r)) e)
-      ∙ after-after i 1 wrote [] (run a opts (drop (i + 1) piece) m (room - n))
-      ∙ ap (λ (w : List ℕ). after (i + 1) w (run a opts (drop (i + 1) piece) m (room - n))) (append-nil wrote)
+        g .same
+        ∙ ap (λ (r : Ran). after i wrote r) (peel h ∙ ap (λ (t : Step). onStep s t (λ m. run a opts (drop (i + 1) piece) m (room - n)) (room - n) (λ m r. run a opts (drop (i + 1) piece) m r)) e)
+        ∙ after-after i 1 wrote [] (run a opts (drop (i + 1) piece) m (room - n))
+        ∙ ap (λ (w : List ℕ). after (i + 1) w (run a opts (drop (i + 1) piece) m (room - n))) (append-nil wrote);
   }
 
   -- a byte that gives a byte, with room for it
@@ -69,10 +69,10 @@ module _ {a opts : ℕ} {piece : List ℕ} {s₀ : State} {room : ℕ} {s : Stat
         size = rw (length-append, g .size);
         fits = omega arith;
         same =
-          g .same
-          ∙ ap (λ (r : Ran). after i wrote r) (peel h ∙ ap (λ (t : Step). onStep s t (λ m. run a opts (drop (i + 1) piece) m (room - n)) (room - n) (λ m r. run a opts (drop (i + 1) piece) m r)) e ∙ room-less (room - n) (omega arith) s x m (λ m. run a opts (drop (i + 1) piece) m (room - n)) (λ m r. run a opts (drop (i + 1) piece) m r))
-          ∙ after-after i 1 wrote (x ∷ []) (run a opts (drop (i + 1) piece) m (room - n - 1))
-          ∙ ap (λ (r : ℕ). after (i + 1) (wrote ++ x ∷ []) (run a opts (drop (i + 1) piece) m r)) left
+            g .same
+            ∙ ap (λ (r : Ran). after i wrote r) (peel h ∙ ap (λ (t : Step). onStep s t (λ m. run a opts (drop (i + 1) piece) m (room - n)) (room - n) (λ m r. run a opts (drop (i + 1) piece) m r)) e ∙ room-less (room - n) (omega arith) s x m (λ m. run a opts (drop (i + 1) piece) m (room - n)) (λ m r. run a opts (drop (i + 1) piece) m r))
+            ∙ after-after i 1 wrote (x ∷ []) (run a opts (drop (i + 1) piece) m (room - n - 1))
+            ∙ ap (λ (r : ℕ). after (i + 1) (wrote ++ x ∷ []) (run a opts (drop (i + 1) piece) m r)) left;
       }
 
   -- a byte that would give a byte, and no room

@@ -57,17 +57,18 @@ module _ (a : ℕ) (h : a < 6) (s : State) (f : Sound a s) where
       (λ e. either (Keeps a s) (ltb (heldBits a s + bits a) 8)
       (λ m. record {
         sound = record { held = rw (held-then (ltb-true _ _ m)) (joined l); digits = omega (arith, f .digits); pads = omega arith };
-        one = refl
+        one = refl;
       })
       (λ m.
-        let n : ℕ = heldBits a s + bits a - 8 in
-        let g : 8 ≤ heldBits a s + bits a = ltb-false _ _ m in
-        let e : 8 + n ≡ heldBits a s + bits a = omega arith in
-        (record {
+      let n : ℕ = heldBits a s + bits a - 8 in
+      let g : 8 ≤ heldBits a s + bits a = ltb-false _ _ m in
+      let e : 8 + n ≡ heldBits a s + bits a = omega arith in (
+        record {
           sound = record { held = rw (left-then g) (mod-lt (s .held * 2 ^ bits a + v) (pow-pos n)); digits = omega (arith, f .digits); pads = omega arith };
-          one = refl
+          one = refl;
         },
-        shr-lt 8 n (subst (λ (k : ℕ). s .held * 2 ^ bits a + v < 2 ^ k) (sym e) (joined l)))))
+        shr-lt 8 n (subst (λ (k : ℕ). s .held * 2 ^ bits a + v < 2 ^ k) (sym e) (joined l)),
+      )))
 
   keeps-pad : (opts : ℕ) → Keeps a s (onPad a opts s)
   unfolding onPad heldBits

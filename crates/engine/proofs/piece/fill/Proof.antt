@@ -33,7 +33,7 @@ enum-known-v : tie.Need-enum-known-v Inv-loop μ-loop
 enum-known-v c = search needs
 
 on-digit-requires : tie.Need-on-digit-requires Inv-loop μ-loop
-on-digit-requires c κs = 
+on-digit-requires c κs =
     let v = c .before in
     let l = v .before .before in
     let b = l .before in
@@ -53,7 +53,7 @@ loop-less : tie.Need-loop-less Inv-loop μ-loop
 loop-less c = search needs
 
 loop-again : tie.Need-loop-again Inv-loop μ-loop
-loop-again c = 
+loop-again c =
     let m = c .before .before .before in
     let v = m .before .before in
     let l = v .before .before in
@@ -68,13 +68,13 @@ enum-known-x : tie.Need-enum-known-x Inv-loop μ-loop
 enum-known-x c = search needs
 
 same-length : tie.Need-same-length Inv-loop μ-loop
-same-length c = 
+same-length c =
     let h = c .before .before .before .before .before .before .before .before .before .before .before in
     let a = allowed-alphabet _ _ (h .before .before .before .before .pre .1 .0) in
     same-size a (h .loop .inv)
 
 returns : tie.Need-returns Inv-loop μ-loop
-returns c = 
+returns c =
     let m = c .before .before .before .before in
     let v = m .before .before in
     let l = v .before .before in
@@ -86,7 +86,7 @@ returns c =
     filling-done a (h .loop .inv) (loop-full a (h .loop .inv .loop) (b .before .loop-test .taken) e (c .before .before .x .given .1) (c .if1 .taken ∙ same-size a (h .loop .inv)))
 
 slice-write-out : tie.Need-slice-write-out Inv-loop μ-loop
-slice-write-out c = 
+slice-write-out c =
     let m = c .before .before .before .before in
     let v = m .before .before in
     let l = v .before .before in
@@ -107,7 +107,7 @@ loop-less-2 : tie.Need-loop-less-2 Inv-loop μ-loop
 loop-less-2 c = search needs
 
 loop-again-2 : tie.Need-loop-again-2 Inv-loop μ-loop
-loop-again-2 c = 
+loop-again-2 c =
     let m = c .before .before .before .before in
     let v = m .before .before in
     let l = v .before .before in
@@ -122,13 +122,13 @@ enum-known-e : tie.Need-enum-known-e Inv-loop μ-loop
 enum-known-e c = search needs
 
 same-length-2 : tie.Need-same-length-2 Inv-loop μ-loop
-same-length-2 c = 
+same-length-2 c =
     let h = c .before .before .before .before .before .before .before .before .before .before in
     let a = allowed-alphabet _ _ (h .before .before .before .before .pre .1 .0) in
     same-size a (h .loop .inv)
 
 returns-2 : tie.Need-returns-2 Inv-loop μ-loop
-returns-2 c = 
+returns-2 c =
     let m = c .before .before .before in
     let v = m .before .before in
     let l = v .before .before in
@@ -140,7 +140,7 @@ returns-2 c =
     filling-done a (h .loop .inv) (loop-refused a (h .loop .inv .loop) (b .before .loop-test .taken) e (c .before .e .given .1))
 
 rare-requires : tie.Need-rare-requires Inv-loop μ-loop
-rare-requires c κs = 
+rare-requires c κs =
     let b = c .before .before in
     let h = b .before .before in
     let s = h .before .before .before .before in
@@ -157,7 +157,7 @@ loop-less-3 : tie.Need-loop-less-3 Inv-loop μ-loop
 loop-less-3 c = search needs
 
 loop-again-3 : tie.Need-loop-again-3 Inv-loop μ-loop
-loop-again-3 c = 
+loop-again-3 c =
     let m = c .before .before .before in
     let b = m .before .before .before in
     let h = b .before .before in
@@ -170,13 +170,13 @@ enum-known-x-2 : tie.Need-enum-known-x-2 Inv-loop μ-loop
 enum-known-x-2 c = search needs
 
 same-length-3 : tie.Need-same-length-3 Inv-loop μ-loop
-same-length-3 c = 
+same-length-3 c =
     let h = c .before .before .before .before .before .before .before .before .before in
     let a = allowed-alphabet _ _ (h .before .before .before .before .pre .1 .0) in
     same-size a (h .loop .inv)
 
 returns-3 : tie.Need-returns-3 Inv-loop μ-loop
-returns-3 c = 
+returns-3 c =
     let m = c .before .before .before .before in
     let b = m .before .before .before in
     let h = b .before .before in
@@ -186,7 +186,7 @@ returns-3 c =
     filling-done a (h .loop .inv) (loop-full a (h .loop .inv .loop) (b .before .loop-test .taken) e (c .before .before .x2 .given .1) (c .if2 .taken ∙ same-size a (h .loop .inv)))
 
 slice-write-out-2 : tie.Need-slice-write-out-2 Inv-loop μ-loop
-slice-write-out-2 c = 
+slice-write-out-2 c =
     let m = c .before .before .before .before in
     let b = m .before .before .before in
     let h = b .before .before in
@@ -205,7 +205,7 @@ loop-less-4 : tie.Need-loop-less-4 Inv-loop μ-loop
 loop-less-4 c = search needs
 
 loop-again-4 : tie.Need-loop-again-4 Inv-loop μ-loop
-loop-again-4 c = 
+loop-again-4 c =
     let m = c .before .before .before .before in
     let b = m .before .before .before in
     let h = b .before .before in
@@ -218,13 +218,13 @@ enum-known-e-2 : tie.Need-enum-known-e-2 Inv-loop μ-loop
 enum-known-e-2 c = search needs
 
 same-length-4 : tie.Need-same-length-4 Inv-loop μ-loop
-same-length-4 c = 
+same-length-4 c =
     let h = c .before .before .before .before .before .before .before .before in
     let a = allowed-alphabet _ _ (h .before .before .before .before .pre .1 .0) in
     same-size a (h .loop .inv)
 
 returns-4 : tie.Need-returns-4 Inv-loop μ-loop
-returns-4 c = 
+returns-4 c =
     let m = c .before .before .before in
     let b = m .before .before .before in
     let h = b .before .before in
@@ -234,13 +234,13 @@ returns-4 c =
     filling-done a (h .loop .inv) (loop-refused a (h .loop .inv .loop) (b .before .loop-test .taken) e (c .before .e2 .given .1))
 
 same-length-5 : tie.Need-same-length-5 Inv-loop μ-loop
-same-length-5 c = 
+same-length-5 c =
     let h = c .before in
     let a = allowed-alphabet _ _ (h .before .before .before .before .pre .1 .0) in
     same-size a (h .loop .inv)
 
 returns-5 : tie.Need-returns-5 Inv-loop μ-loop
-returns-5 c = 
+returns-5 c =
     let h = c .before in
     let s = h .before .before .before .before in
     let a = allowed-alphabet _ _ (s .pre .1 .0) in

@@ -33,7 +33,7 @@ unpadded-requires c κs = search needs
 
 returns-4 : tie.Need-returns-4
 unfolding ending wants unpaddedEnd
-returns-4 c = 
+returns-4 c =
     let n = c .before .before in
     let g = n .before .before in
     c .unpadded .ensures
@@ -41,7 +41,7 @@ returns-4 c =
 
 returns-5 : tie.Need-returns-5
 unfolding ending wants number
-returns-5 c = 
+returns-5 c =
     let n = c .before in
     let g = n .before .before in
     rw (← g .before .before .wants .ensures, ← g .last-group .ensures) (simp (le-ltb _ _ (g .before .if1 .left), ne-eqb _ _ (n .before .if3 .left), sym (n .chosen .ensures) ∙ c .if4 .left))

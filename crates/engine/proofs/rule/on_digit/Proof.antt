@@ -33,14 +33,14 @@ enum-known-x c = search needs
 
 returns-2 : tie.Need-returns-2
 unfolding heldBits
-returns-2 c = 
+returns-2 c =
     let s = c .before .before .before .before in
     let p = s .before .pre in
     digit-held _ (p .1 .0) _ (p .1 .1 .0) (p .1 .1 .1) (s .if1 .left) (rw (← p .0) (sym (c .before .before .before .feed .ensures) ∙ c .before .h .given .1))
 
 returns-3 : tie.Need-returns-3
 unfolding heldBits
-returns-3 c = 
+returns-3 c =
     let s = c .before .before .before .before in
     let p = s .before .pre in
     digit-gives _ (p .1 .0) _ (p .1 .1 .0) (p .1 .1 .1) (s .if1 .left) (rw (← p .0) (sym (c .before .before .before .feed .ensures) ∙ c .before .x .given .1))

@@ -39,14 +39,14 @@ chosen-requires c κs = search needs
 
 returns-5 : tie.Need-returns-5
 unfolding onPad wants
-returns-5 c = 
+returns-5 c =
     let n = c .before in
     let g = n .before .before .before in
     rw (← g .before .wants .ensures) (simp (le-ltb _ _ (g .if1 .left), ne-eqb _ _ (n .before .before .if3 .left), ne-eqb _ _ (n .before .if4 .left), sym (n .chosen .ensures) ∙ c .if5 .taken))
 
 returns-6 : tie.Need-returns-6
 unfolding onPad wants number
-returns-6 c = 
+returns-6 c =
     let n = c .before in
     let g = n .before .before .before in
     rw (← g .before .wants .ensures) (simp (le-ltb _ _ (g .if1 .left), ne-eqb _ _ (n .before .before .if3 .left), ne-eqb _ _ (n .before .if4 .left), sym (n .chosen .ensures) ∙ c .if5 .left))

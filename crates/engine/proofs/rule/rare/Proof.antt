@@ -34,7 +34,7 @@ bits-requires : tie.Need-bits-requires
 bits-requires c κs = search needs
 
 on-digit-requires : tie.Need-on-digit-requires
-on-digit-requires c κs = 
+on-digit-requires c κs =
     let l = c .before .before .before .before in
     let n = l .before in
     let s = n .before .before .before in
@@ -51,7 +51,7 @@ enum-told-2 : tie.Need-enum-told-2
 enum-told-2 c = search needs
 
 returns-2 : tie.Need-returns-2
-returns-2 c = 
+returns-2 c =
     let l = c .before .before .before .before .before in
     let n = l .before in
     let s = n .before .before .before in
@@ -59,7 +59,7 @@ returns-2 c =
     c .on-digit .ensures ∙ sym (d .is)
 
 returns-3 : tie.Need-returns-3
-returns-3 c = 
+returns-3 c =
     let l = c .before .before .before in
     let n = l .before in
     let s = n .before .before .before in
@@ -68,7 +68,7 @@ returns-3 c =
 
 returns-4 : tie.Need-returns-4
 unfolding number
-returns-4 c = 
+returns-4 c =
     let l = c .before .before in
     let n = l .before in
     let s = n .before .before .before in
