@@ -7,6 +7,7 @@ use crate::rule::Took;
 use crate::rule::on_digit;
 use crate::rule::rare;
 use alphabet::table::Symbol;
+ghost use Prim.Native.Nat.{_≤_};
 ghost use mathlib.Core.Path.{_≡_};
 ghost use mathlib.Core.Bool.{true};
 ghost use lib.ListN.{length};
@@ -15,7 +16,8 @@ ghost use Rattle.reading.specs.Options as Options;
 ghost use Rattle.reading.specs.Limit as Limit;
 ghost use Rattle.reading.specs.Piece as Piece;
 ghost use Rattle.engine.specs.Meaning.{stateOf};
-ghost use Rattle.engine.specs.Ran.{Ready, ranAs, atLimit, runAs, runBytes, freshAs, freshBytes, filled, small};
+ghost use Rattle.engine.specs.Ran as Spec;
+ghost use Rattle.engine.specs.Ran.{Ready, ranAs, filled};
 
 // Why a run over a piece stopped. Unfit: the choice or the state is none that reading starts from, and nothing was done.
 pub enum Why {
@@ -264,4 +266,118 @@ fn settle(t: &[u8; 1536], alphabet: usize, options: usize, start: Core, buf: &mu
         took: i,
         wrote: n,
     }
+}
+
+// Whether the held bits are as many as the digits leave.
+fn small(alphabet: usize, digits: usize, held: u8) -> bool
+    requires { ⌜ digits ≤ Limit.limit ⌝ }
+    ensures { λ r. ⌜ r ≡ Spec.small alphabet digits held ⌝ }
+{
+    let b = alphabet::sizes::bits(alphabet);
+    let r = b * digits % 8;
+    let w: usize = 1 << r;
+    (held as usize) < w
+}
+
+// Whether the choice is allowed and the state is one that reading can go on from.
+fn ready(alphabet: usize, options: usize, k: Core) -> bool
+    ensures { λ r. ⌜ r ≡ Spec.ready alphabet options k ⌝ }
+{
+    let digits = k.digits;
+    let held = k.held;
+    let pads = k.pads;
+    let taken = k.taken;
+    if allowed(alphabet, options) {
+        if taken <= limit() {
+            if digits <= taken {
+                if pads <= taken {
+                    return small(alphabet, digits, held);
+                }
+            }
+        }
+    }
+    false
+}
+
+// (a): the byte at the limit is refused, where all before it was taken.
+fn at_limit(r: Ran) -> Ran
+    ensures { λ x. ⌜ x ≡ Spec.atLimit r ⌝ }
+{
+    let core = r.core;
+    let why = r.why;
+    let took = r.took;
+    let wrote = r.wrote;
+    match why {
+        Why::All => Ran {
+            core,
+            why: Why::Refused(Cause::TooLong),
+            took,
+            wrote,
+        },
+        Why::Refused(c) => Ran {
+            core,
+            why: Why::Refused(c),
+            took,
+            wrote,
+        },
+        Why::Full => Ran {
+            core,
+            why: Why::Full,
+            took,
+            wrote,
+        },
+        Why::Unfit => Ran {
+            core,
+            why: Why::Unfit,
+            took,
+            wrote,
+        },
+    }
+}
+
+fn unfit(core: Core) -> Ran
+    ensures { λ r. ⌜ r ≡ Spec.unfit core ⌝ }
+{
+    Ran {
+        core,
+        why: Why::Unfit,
+        took: 0,
+        wrote: 0,
+    }
+}
+
+// A piece into a buffer, from any state.
+pub fn run(alphabet: usize, options: usize, start: Core, piece: &[u8], out: &mut [u8]) -> Ran
+    ensures { λ r. ⌜ r ≡ Spec.runAs alphabet options start (now (piece .entry)) (length (now (out .entry))) ⌝ }
+    ensures { λ r. ⌜ now (out .exit) ≡ filled (Spec.runBytes alphabet options start (now (piece .entry)) (length (now (out .entry)))) (now (out .entry)) ⌝ }
+{
+    if ready(alphabet, options, start) {
+        let t = alphabet::table::table();
+        let taken = start.taken;
+        let left = limit() - taken;
+        if left < piece.len() {
+            let front = &piece[..left];
+            let r = fill(&t, alphabet, options, start, front, out);
+            return at_limit(r);
+        }
+        return fill(&t, alphabet, options, start, piece, out);
+    }
+    unfit(start)
+}
+
+// A whole text, counted alone.
+pub fn count(alphabet: usize, options: usize, text: &[u8]) -> Ran
+    ensures { λ r. ⌜ r ≡ Spec.freshAs alphabet options (now (text .entry)) ⌝ }
+{
+    if allowed(alphabet, options) {
+        let t = alphabet::table::table();
+        let most = limit();
+        if most < text.len() {
+            let front = &text[..most];
+            let r = tally(&t, alphabet, options, fresh(), front);
+            return at_limit(r);
+        }
+        return tally(&t, alphabet, options, fresh(), text);
+    }
+    unfit(fresh())
 }
