@@ -1,17 +1,17 @@
 -- Laws of the six alphabets: each table's rule is one computed test. Assumes nothing.
-use Prim.Native.Nat.{ℕ, zero, suc, _+_, _-_, _*_, _%_, _^_, _<_, _≤_}
-use mathlib.Core.Path.{_≡_, refl, sym, ap, _∙_, subst}
-use mathlib.Core.Logic.{_⊎_, inl, inr, ⊎-elim}
-use mathlib.Core.Bool.{Bool, true, false, cond, not, _&&_, _||_}
+use Prim.Native.Nat.{ℕ, suc, _+_, _-_, _*_, _%_, _^_, _<_, _≤_}
+use mathlib.Core.Path.{_≡_, refl, sym, ap, _∙_}
+use mathlib.Core.Logic.{_⊎_, inl, inr}
+use mathlib.Core.Bool.{Bool, true, false, cond, _&&_, _||_}
 use mathlib.Core.List.{List, [], _∷_}
-use native.Mathlib.Nat.{add-zero, suc-add, add-suc, zero-add}
+use native.Mathlib.Nat.{add-zero, zero-add}
 use native.Mathlib.Omega.{arith}
 use lib.Dec.{T, eqb, ltb, leb, eqb→eq, leb→le, ltb→lt}
 use lib.ListN.{length, getD}
-use borrow.Author.Tests.{eqb-true, eqb-false, eq-eqb, ne-eqb}
+use borrow.Author.Tests.{eqb-true}
 use Rattle.alphabet.specs.Ascii.{ascii}
 use Rattle.alphabet.proofs.Tables.{allBelow, every, and-left, and-right}
-use Rattle.alphabet.specs.Alphabet.{bits, group, digits, digit, placeFrom, value, isDigit, padded, isPad, pad, tail, spare}
+use Rattle.alphabet.specs.Alphabet.{bits, group, digits, digit, placeFrom, value, padded, pad, tail, spare}
 
 -- ---- the sizes
 

@@ -1,6 +1,6 @@
 -- How long written forms are: the number of bytes gives the length of the text and, in a text that is one, the number of digits gives the
 -- number of bytes; which sources stay within a limit. Assumes nothing.
-use Prim.Native.Nat.{ℕ, zero, suc, _+_, _-_, _*_, _/_, _%_, _^_, _<_, _≤_}
+use Prim.Native.Nat.{ℕ, zero, suc, _+_, _-_, _*_, _/_, _%_, _<_, _≤_}
 use mathlib.Core.Path.{_≡_, refl, sym, ap, _∙_}
 use mathlib.Core.Logic.{_↔_}
 use mathlib.Core.List.{List}
@@ -8,12 +8,11 @@ use native.Mathlib.Nat.{mod-lt, mul-comm, add-zero, add-mul, one-mul, mul-one, m
 use native.Mathlib.Omega.{arith}
 use lib.Dec.{eqb, eqb→eq}
 use lib.ListN.{length}
-use Rattle.alphabet.specs.Bits.{pack}
 use Rattle.alphabet.specs.Digits.{digitCount, filled, digitsOf, bytesOf}
 use Rattle.alphabet.specs.Alphabet.{bits, group}
 use Rattle.alphabet.specs.Written.{wanting, written, writtenLength}
 use Rattle.alphabet.proofs.Tables.{allBelow, every}
-use Rattle.alphabet.proofs.BitLaws.{pack-length}
+use Rattle.alphabet.proofs.Runs.{pack-length}
 use Rattle.alphabet.proofs.DigitLaws.{count-bounds}
 use Rattle.alphabet.proofs.AlphabetLaws.{bits-low, group-pos}
 use Rattle.alphabet.proofs.WrittenLaws.{wanting-none, wanting-some}

@@ -1,8 +1,9 @@
 pub mod Tables
 pub mod Below
+pub mod Runs
+pub mod Flow
 pub mod BitLaws
 pub mod DigitLaws
-pub mod Flow
 pub mod AlphabetLaws
 pub mod Symbols
 pub mod WrittenLaws

@@ -1,9 +1,9 @@
 -- A text is canonical exactly if it is spelled by digits whose left-over bits are spare and zero. Assumes nothing.
-use Prim.Native.Nat.{ℕ, zero, suc, _+_, _-_, _*_, _/_, _%_, _^_, _<_, _≤_}
+use Prim.Native.Nat.{ℕ, _+_, _-_, _*_, _/_, _%_, _^_, _<_}
 use mathlib.Core.Path.{_≡_, refl, sym, ap, _∙_, subst}
 use mathlib.Core.Logic.{_↔_}
 use mathlib.Core.Bool.{Bool, true, false, cond, _&&_}
-use mathlib.Core.List.{List, [], _∷_, _++_}
+use mathlib.Core.List.{List}
 use native.Mathlib.Nat.{mod-lt, mod-self, mod-eq-of-lt, sub-zero, mul-assoc, mul-add, div-add-mod}
 use native.Mathlib.Omega.{arith}
 use lib.Dec.{T, ltb}
@@ -11,8 +11,7 @@ use lib.ListN.{length}
 use lib.Arith.{lt-one}
 use borrow.Author.Tests.{ltb-true, lt-ltb}
 use Rattle.alphabet.specs.Bits.{Below}
-use Rattle.alphabet.proofs.BitLaws.{Regrouped}
-use Rattle.alphabet.specs.Digits.{digitsOf, bytesOf, leftOf, Whole}
+use Rattle.alphabet.specs.Digits.{digitsOf, bytesOf, Whole}
 use Rattle.alphabet.proofs.DigitLaws.{digits-whole, digits-bytes, digits-below, bytes-below, regrouped}
 use Rattle.alphabet.specs.Alphabet.{bits, group, tail, spare}
 use Rattle.alphabet.proofs.AlphabetLaws.{bits-low, bits-high, group-pos, group-whole, tail-is, spare-tail}
