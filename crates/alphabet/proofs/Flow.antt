@@ -3,7 +3,7 @@
 use Prim.Native.Nat.{ℕ, _+_, _*_, _/_, _%_, _^_, _<_}
 use mathlib.Core.Path.{_≡_, refl, ap, _∙_, subst}
 use mathlib.Core.Bool.{Bool}
-use mathlib.Core.List.{List, [], _∷_, _++_, append-assoc, append-nil}
+use mathlib.Core.List.{List, [], _∷_, _++_, append-assoc}
 use native.Mathlib.Nat.{mod-lt, div-add-mod, mul-comm, div-eq-of-lt-le, add-mul, one-mul}
 use native.Mathlib.Omega.{arith}
 use lib.ListN.{length, drop, length-append, length-drop, take-append-drop}
@@ -11,7 +11,7 @@ use lib.Seq.{drop-at}
 use lib.Pow.{pow-pos, shr-lt}
 use Rattle.alphabet.specs.Bits.{bitsOf, valueOf, unpack, pack, Below}
 use Rattle.alphabet.proofs.Below.{below-append, below-snoc}
-use Rattle.alphabet.proofs.Runs.{bits-length, bits-join, bits-split, bits-mod, joined-lt, bits-value-at, value-lt, value-bits, unpack-append, unpack-length, unpack-front, pack-below, pack-unpack}
+use Rattle.alphabet.proofs.Runs.{bits-length, bits-join, bits-split, bits-mod, joined-lt, bits-value-at, value-lt, value-bits, unpack-append, unpack-one, unpack-length, unpack-front, pack-below, pack-unpack}
 
 -- after the numbers ins, the numbers outs are given and the r bits of held are not yet
 pub record Flow (m w : ℕ) (ins outs : List ℕ) (r held : ℕ) : Type 0 where
@@ -27,21 +27,19 @@ module _ (m w : ℕ) where
   empty = record { small = omega arith; below = tt; same = refl }
 
   pub absorb : (ins outs : List ℕ) (r held : ℕ) {v : ℕ} → v < 2 ^ m → Flow m w ins outs r held → Flow m w (ins ++ v ∷ []) outs (r + m) (held * 2 ^ m + v)
-  unfolding unpack
   absorb ins outs r held {v} h f =
       record {
         small = joined-lt r m (f .small) h;
         below = f .below;
-        same = rw (unpack-append m ins (v ∷ []), f .same, bits-join r m held h, append-assoc, append-nil);
+        same = rw (unpack-append m ins (v ∷ []), f .same, unpack-one m v, bits-join r m held h, append-assoc);
       }
 
   pub emit : (ins outs : List ℕ) (n held : ℕ) → Flow m w ins outs (w + n) held → Flow m w ins (outs ++ held / 2 ^ n ∷ []) n (held % 2 ^ n)
-  unfolding unpack
   emit ins outs n held f =
       record {
         small = mod-lt held (pow-pos n);
         below = below-snoc (2 ^ w) outs (f .below) (shr-lt w n (f .small));
-        same = f .same ∙ rw (bits-split w n, bits-mod n held, unpack-append w outs (held / 2 ^ n ∷ []), append-assoc, append-nil);
+        same = f .same ∙ rw (bits-split w n, bits-mod n held, unpack-append w outs (held / 2 ^ n ∷ []), unpack-one w (held / 2 ^ n), append-assoc);
       }
 
   -- absorbed bits that complete a number, and n bits after it

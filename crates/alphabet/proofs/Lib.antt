@@ -6,11 +6,12 @@ pub mod BitLaws
 pub mod DigitLaws
 pub mod AlphabetLaws
 pub mod Symbols
+pub mod SizeTests
 pub mod WrittenLaws
+pub mod Tails
 pub mod Shapes
 pub mod Lengths
 pub mod Vectors
-pub mod SizeTests
 pub mod Shifts
 pub mod TableLaws
 pub mod RegroupLaws

@@ -8,7 +8,7 @@ use lib.Dec.{T, eqb, ltb, eqb→eq, ltb→lt}
 use borrow.Author.Tests.{eqb-true, eq-eqb, ne-eqb, ltb-true, le-ltb}
 use Rattle.alphabet.specs.Ascii.{ascii}
 use Rattle.alphabet.specs.Alphabet.{bits, digits, digit, value, isDigit, padded, isPad, pad}
-use Rattle.alphabet.proofs.Tables.{allBelow, every, and-left, and-right}
+use Rattle.alphabet.proofs.Tables.{allBelow, every, every-of, and-left, and-right}
 use Rattle.alphabet.proofs.AlphabetLaws.{value-digit, value-small, digit-value, pad-no-digit}
 
 -- ---- digits
@@ -61,7 +61,7 @@ printable-test a v = ltb 32 (digit a v) && ltb (digit a v) 127
 
 printable-at : (a : ℕ) → a < 6 → {v : ℕ} → v < 2 ^ bits a → T (printable-test a v)
 unfolding allBelow ascii bits digits digit printable-test
-printable-at a h {v} l = every (2 ^ bits a) (printable-test a) (every 6 (λ k. allBelow (2 ^ bits k) (printable-test k)) tt a h) v l
+printable-at a h l = every-of 6 (λ k. 2 ^ bits k) printable-test tt h l
 
 -- above 32, so none of 13, 10, 32 and 9, and below 127
 pub digit-printable : (a : ℕ) → a < 6 → {v : ℕ} → v < 2 ^ bits a → (32 < digit a v) × (digit a v < 127)
@@ -83,7 +83,7 @@ zero-digit a h = eqb→eq (digit a 0) (cond (ltb a 3) 65 48) (every 6 (λ k. eqb
 -- alphabets 2 to 4 have no small letter, and alphabet 5 no capital
 pub no-small-letter : (a : ℕ) → 2 ≤ a → a < 5 → {v : ℕ} → v < 2 ^ bits a → digit a v < 97
 unfolding allBelow ascii bits digits digit
-no-small-letter a k h {v} l = ltb→lt (digit a v) 97 (or-right (ltb a 2) _ (le-ltb a 2 k) (every (2 ^ bits a) (small a) (every 5 (λ j. allBelow (2 ^ bits j) (small j)) tt a h) v l))
+no-small-letter a k h {v} l = ltb→lt (digit a v) 97 (or-right (ltb a 2) _ (le-ltb a 2 k) (every-of 5 (λ j. 2 ^ bits j) small tt h l))
   where
     small : ℕ → ℕ → Bool
     small j w = ltb j 2 || ltb (digit j w) 97
