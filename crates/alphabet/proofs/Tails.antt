@@ -1,9 +1,9 @@
 -- The tail table whole: it has exactly the digit counts d > 0 of a last group with b * d mod 8 < b, with g - d pads and b * d mod 8 spare bits.
 -- Assumes nothing.
 use Prim.Native.Nat.{ℕ, _-_, _*_, _%_, _<_, _≤_}
-use mathlib.Core.Path.{_≡_, refl}
+use mathlib.Core.Path.{_≡_, refl, _∙_}
 use mathlib.Core.Logic.{_⊎_, inl, inr, _↔_, ⊎-elim}
-use mathlib.Core.Bool.{Bool, true, false, _&&_, _||_}
+use mathlib.Core.Bool.{Bool, true, false, cond, _&&_, _||_}
 use native.Mathlib.Omega.{arith}
 use lib.Dec.{T, eqb, ltb, eqb→eq, ltb→lt}
 use borrow.Author.Tests.{eqb-true, ltb-true, ltb-false}
@@ -19,26 +19,24 @@ within d g = go (ltb d g) refl
     go true e = inl (ltb-true d g e)
     go false e = inr (ltb-false d g e)
 
--- no row is longer than a group
-pub tail-past : (a : ℕ) → {d : ℕ} → group a ≤ d → tail a d ≡ 0
-tail-past a {d} l = go (ltb a 2) refl (ltb a 4) refl
+-- a table whose rows are no longer than a group has nothing past it
+past : (f : ℕ → ℕ → ℕ) (a x : ℕ) → f a x ≡ cond (ltb a 2) (f 0 x) (cond (ltb a 4) (f 2 x) 0) → (4 ≤ x → f 0 x ≡ 0) → (8 ≤ x → f 2 x ≡ 0) → group a ≤ x → f a x ≡ 0
+past f a x e p q l = go (ltb a 2) refl (ltb a 4) refl
   where
-    go : (x : Bool) → ltb a 2 ≡ x → (y : Bool) → ltb a 4 ≡ y → tail a d ≡ 0
-    go true e y f = let g : 4 ≤ d = rw (group-by, e) at l in rw (tail-by, e) (tail64-rest d (λ k. omega arith) (λ k. omega arith))
-    go false e true f =
-        let g : 8 ≤ d = rw (group-by, e, f) at l in
-        rw (tail-by, e, f) (tail32-rest d (λ k. omega arith) (λ k. omega arith) (λ k. omega arith) (λ k. omega arith))
-    go false e false f = rw (tail-by, e, f)
+    go : (y : Bool) → ltb a 2 ≡ y → (z : Bool) → ltb a 4 ≡ z → f a x ≡ 0
+    go true y z w = e ∙ rw y (p (rw (group-by, y) at l))
+    go false y true w = e ∙ rw (y, w) (q (rw (group-by, y, w) at l))
+    go false y false w = e ∙ rw (y, w)
 
-pub spare-past : (a : ℕ) → {p : ℕ} → group a ≤ p → spare a p ≡ 0
-spare-past a {p} l = go (ltb a 2) refl (ltb a 4) refl
-  where
-    go : (x : Bool) → ltb a 2 ≡ x → (y : Bool) → ltb a 4 ≡ y → spare a p ≡ 0
-    go true e y f = let g : 4 ≤ p = rw (group-by, e) at l in rw (spare-by, e) (spare64-rest p (λ k. omega arith) (λ k. omega arith))
-    go false e true f =
-        let g : 8 ≤ p = rw (group-by, e, f) at l in
-        rw (spare-by, e, f) (spare32-rest p (λ k. omega arith) (λ k. omega arith) (λ k. omega arith) (λ k. omega arith))
-    go false e false f = rw (spare-by, e, f)
+pub tail-past : (a : ℕ) {d : ℕ} → group a ≤ d → tail a d ≡ 0
+tail-past a {d} =
+    past tail a d (tail-by a d) (λ l. tail64-rest d (λ k. omega arith) (λ k. omega arith))
+    (λ l. tail32-rest d (λ k. omega arith) (λ k. omega arith) (λ k. omega arith) (λ k. omega arith))
+
+pub spare-past : (a : ℕ) {p : ℕ} → group a ≤ p → spare a p ≡ 0
+spare-past a {p} =
+    past spare a p (spare-by a p) (λ l. spare64-rest p (λ k. omega arith) (λ k. omega arith))
+    (λ l. spare32-rest p (λ k. omega arith) (λ k. omega arith) (λ k. omega arith) (λ k. omega arith))
 
 -- the digit counts of the table
 pub tail-table : (a : ℕ) → a < 6 → (d : ℕ) → (0 < tail a d) ↔ ((d < group a) × (0 < d) × (bits a * d % 8 < bits a))
