@@ -17,3 +17,4 @@ pub mod TableLaws
 pub mod RegroupLaws
 pub mod DigitBytes
 pub mod Parting
+pub mod StepLaws
