@@ -10,6 +10,7 @@ pub mod SizeTests
 pub mod WrittenLaws
 pub mod Tails
 pub mod Shapes
+pub mod CanonicalLaws
 pub mod Lengths
 pub mod Vectors
 pub mod Shifts
