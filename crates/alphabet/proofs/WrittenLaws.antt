@@ -1,9 +1,8 @@
 -- A text is canonical exactly if it is spelled by digits whose left-over bits are spare and zero. Assumes nothing.
-use Prim.Native.Nat.{ℕ, zero, suc, _+_, _-_, _*_, _/_, _%_, _^_, _<_, _≤_}
+use Prim.Native.Nat.{ℕ, _+_, _-_, _*_, _/_, _%_, _^_, _<_}
 use mathlib.Core.Path.{_≡_, refl, sym, ap, _∙_, subst}
-use mathlib.Core.Logic.{_↔_}
 use mathlib.Core.Bool.{Bool, true, false, cond, _&&_}
-use mathlib.Core.List.{List, [], _∷_, _++_}
+use mathlib.Core.List.{List}
 use native.Mathlib.Nat.{mod-lt, mod-self, mod-eq-of-lt, sub-zero, mul-assoc, mul-add, div-add-mod}
 use native.Mathlib.Omega.{arith}
 use lib.Dec.{T, ltb}
@@ -11,8 +10,7 @@ use lib.ListN.{length}
 use lib.Arith.{lt-one}
 use borrow.Author.Tests.{ltb-true, lt-ltb}
 use Rattle.alphabet.specs.Bits.{Below}
-use Rattle.alphabet.proofs.BitLaws.{Regrouped}
-use Rattle.alphabet.specs.Digits.{digitsOf, bytesOf, leftOf, Whole}
+use Rattle.alphabet.specs.Digits.{digitsOf, bytesOf, Whole}
 use Rattle.alphabet.proofs.DigitLaws.{digits-whole, digits-bytes, digits-below, bytes-below, regrouped}
 use Rattle.alphabet.specs.Alphabet.{bits, group, tail, spare}
 use Rattle.alphabet.proofs.AlphabetLaws.{bits-low, bits-high, group-pos, group-whole, tail-is, spare-tail}
@@ -92,11 +90,6 @@ in-table a h d l p = go (ltb 0 d && ltb (bits a * d % 8) (bits a)) refl
 
 pub table-in : (a : ℕ) → a < 6 → (d : ℕ) → d < group a → 0 < d → bits a * d % 8 < bits a → tail a d ≡ group a - d
 table-in a h d l p q = tail-is a h l ∙ rw (lt-ltb 0 d p, lt-ltb (bits a * d % 8) (bits a) q)
-
--- the tail table has exactly the digit counts that leave fewer bits than a digit has
-pub tail-table : (a : ℕ) → a < 6 → (d : ℕ) → d < group a → (0 < tail a d) ↔ ((0 < d) × (bits a * d % 8 < bits a))
-tail-table a h d l =
-    (λ p. let t : InTable a d = in-table a h d l p in (t .some, t .few), λ p. omega (arith, table-in a h d l (p .0) (p .1)))
 
 -- whole digits fill their last group, or want the pads of the tail table
 pub whole-tail : (a : ℕ) → a < 6 → (ds : List ℕ) → Whole (bits a) ds → 0 < length ds % group a → tail a (length ds % group a) ≡ wanting (group a) (length ds)
