@@ -15,3 +15,4 @@ pub mod TableLaws
 pub mod RegroupLaws
 pub mod DigitBytes
 pub mod Parting
+pub mod Groups

@@ -14,3 +14,6 @@ pub mod Meaning
 pub mod PieceLaws
 pub mod PieceLimit
 pub mod PieceCuts
+pub mod LimitLaws
+pub mod OptionLaws
+pub mod Strict
