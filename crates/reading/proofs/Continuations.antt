@@ -29,7 +29,7 @@ use Rattle.reading.proofs.LaxComplete.{accepted→accepts}
 -- ---- bytes that cleaning leaves as they are
 
 -- no byte above the blank is dropped
-kept-high : (opts c : ℕ) → 32 < c → dropped opts c ≡ false
+pub kept-high : (opts c : ℕ) → 32 < c → dropped opts c ≡ false
 unfolding dropped
 kept-high opts c l =
     rw (ne-eqb c 13 (λ e. omega arith), ne-eqb c 10 (λ e. omega arith), ne-eqb c 32 (λ e. omega arith), ne-eqb c 9 (λ e. omega arith))

@@ -146,7 +146,7 @@ module _ (a : ℕ) (h : a < 6) (opts : ℕ) where
   and-false false true e f = sym f
   and-false false false e f = sym e
 
-  ended : (ds : List ℕ) (p i : ℕ) → (0 < p → Tailed a opts ds p) → ending a opts (state a ds p i) ≡ 0 → Closed a opts ds p
+  pub ended : (ds : List ℕ) (p i : ℕ) → (0 < p → Tailed a opts ds p) → ending a opts (state a ds p i) ≡ 0 → Closed a opts ds p
   unfolding ending wants
   ended ds p i t e =
       go (ltb 0 p) refl (eqb p (tail a (length ds % group a))) refl (eqb (length ds % group a) 0) refl (nopad opts) refl (eqb (tail a (length ds % group a)) 0) refl

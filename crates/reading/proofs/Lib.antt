@@ -17,3 +17,4 @@ pub mod PieceCuts
 pub mod LimitLaws
 pub mod OptionLaws
 pub mod Strict
+pub mod Tidied

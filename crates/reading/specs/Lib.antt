@@ -5,3 +5,4 @@ pub mod Reader
 pub mod Continuation
 pub mod Piece
 pub mod Promises
+pub mod Tidying
