@@ -5,7 +5,7 @@ pub mod LaxJudging
 pub mod LaxComplete
 pub mod Continuations
 pub mod Final
-pub mod Outcomes
+pub mod Known
 pub mod Positions
 pub mod Shared
 pub mod Counting

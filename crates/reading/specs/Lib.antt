@@ -6,3 +6,4 @@ pub mod Continuation
 pub mod Piece
 pub mod Promises
 pub mod Tidying
+pub mod Known
