@@ -13,6 +13,5 @@ pub mod SizeTests
 pub mod Shifts
 pub mod TableLaws
 pub mod RegroupLaws
-pub mod DigitBytes
+pub mod Edges
 pub mod Parting
-pub mod Groups

@@ -1,14 +1,14 @@
 -- What is read of a text is read of each of its fronts; a text one of whose fronts is refused has no accepted continuation. Assumes nothing.
-use Prim.Native.Nat.{ℕ, _+_, _<_}
+use Prim.Native.Nat.{ℕ, _<_}
 use mathlib.Core.Path.{_≡_, sym, ap, _∙_}
 use mathlib.Core.Logic.{_⊎_, inl, inr}
-use mathlib.Core.List.{List, [], _∷_, _++_, append-assoc}
+use mathlib.Core.List.{List, [], _++_, append-assoc}
 use native.Mathlib.Omega.{arith}
 use lib.ListN.{take, drop, take-append-drop}
 use Rattle.reading.specs.Cleaning.{Accepted}
 use Rattle.reading.specs.Reader.{State, Reading, going, stopped, fresh, feedAll}
 use Rattle.reading.proofs.ReaderLaws.{Stop}
-use Rattle.reading.proofs.Judging.{Seen, progress, start, feed-append, feed-stopped}
+use Rattle.reading.proofs.Seen.{Seen, progress, start, feed-append, feed-stopped}
 use Rattle.reading.proofs.Continuations.{refused-none}
 
 going-no-stop : {s : State} {out : List ℕ} {k i : ℕ} {end : List ℕ} → going s out ≡ stopped k i end → ⊥

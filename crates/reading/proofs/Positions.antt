@@ -1,19 +1,17 @@
 -- Where a reader stands: a byte that is taken moves it on by one, and a reader that stopped had read all before the byte that it refused, by an
 -- answer from 4 to 7. Assumes nothing.
-use Prim.Native.Nat.{ℕ, zero, suc, _+_, _<_, _≤_}
+use Prim.Native.Nat.{ℕ, suc, _+_, _<_, _≤_}
 use mathlib.Core.Path.{_≡_, refl, sym, ap, _∙_}
-use mathlib.Core.Logic.{_⊎_, inl, inr}
 use mathlib.Core.Bool.{Bool, true, false, cond, not, _&&_}
-use mathlib.Core.List.{List, [], _∷_, _++_, append-assoc, append-nil}
+use mathlib.Core.List.{List, [], _∷_, _++_}
 use native.Mathlib.Nat.{suc-add}
 use native.Mathlib.Omega.{arith}
 use lib.Dec.{eqb, ltb}
-use lib.ListN.{length, take, getD}
+use lib.ListN.{length, take}
 use Rattle.alphabet.specs.Alphabet.{bits, value, isDigit, isPad}
-use Rattle.reading.specs.Options.{nopad, anySpare}
+use Rattle.reading.specs.Options.{anySpare}
 use Rattle.reading.specs.Cleaning.{dropped, turned}
-use Rattle.reading.specs.Continuation.{Begins}
-use Rattle.reading.specs.Reader.{State, Step, takes, gives, refuses, Reading, going, stopped, wants, heldBits, passes, onDigit, onPad, step, ending, follow, feed, feedAll}
+use Rattle.reading.specs.Reader.{State, Step, takes, gives, refuses, Reading, going, stopped, wants, heldBits, passes, onDigit, onPad, step, follow, feed, feedAll}
 
 -- ---- one byte
 

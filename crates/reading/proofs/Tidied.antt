@@ -1,38 +1,39 @@
 -- A canonical text is its own cleaned text under every allowed choice; so an accepted text's cleaned text cleans to itself, is the written form of its
 -- bytes, is accepted with the same bytes, and is no longer than the limit. Assumes nothing.
-use Prim.Native.Nat.{ℕ, zero, suc, _+_, _-_, _*_, _%_, _^_, _<_, _≤_}
-use mathlib.Core.Path.{_≡_, refl, sym, ap, _∙_, subst}
+use Prim.Native.Nat.{ℕ, zero, suc, _+_, _-_, _%_, _^_, _<_, _≤_}
+use mathlib.Core.Path.{_≡_, refl, sym, ap, _∙_}
 use mathlib.Core.Logic.{_⊎_, inl, inr}
 use mathlib.Core.Bool.{Bool, true, false, cond, _&&_}
-use mathlib.Core.List.{List, [], _∷_, _++_, map}
+use mathlib.Core.List.{List, [], _∷_}
 use native.Mathlib.Omega.{arith}
 use lib.Dec.{eqb, ltb}
-use lib.ListN.{length, getD, set, length-set, length-append, length-map, length-replicate, replicate}
+use lib.ListN.{length, getD, set, length-set, length-map, replicate}
 use borrow.Author.Tests.{ltb-true, ltb-false}
 use Rattle.alphabet.specs.Bits.{Below}
-use Rattle.alphabet.specs.Digits.{digitsOf, bytesOf}
+use Rattle.alphabet.specs.Digits.{digitsOf}
 use Rattle.alphabet.specs.Alphabet.{bits, group, digit, isDigit, pad, spare}
 use Rattle.alphabet.specs.Written.{wanting, spelled, written, Canonical}
 use Rattle.alphabet.proofs.AlphabetLaws.{group-pos}
-use Rattle.alphabet.proofs.DigitBytes.{digit-high, digit-own}
+use Rattle.alphabet.proofs.Edges.{digit-own}
+use Rattle.alphabet.proofs.Symbols.{digit-printable}
 use Rattle.alphabet.proofs.DigitLaws.{digits-bytes}
-use Rattle.alphabet.proofs.Groups.{group-in-eight, wanting-within}
+use Rattle.alphabet.proofs.Lengths.{eights-group, fill-most}
 use Rattle.alphabet.proofs.WrittenLaws.{ByDigits, canonical→digits}
+use Rattle.alphabet.proofs.Shapes.{shape, shape-length, written-once}
 use Rattle.reading.specs.Options.{anyCase, anySpare, allowed}
 use Rattle.reading.specs.Limit.{limit}
 use Rattle.reading.specs.Cleaning.{dropped, kept, turned, refilled, padRun, clearedDigit, cleared, clean, Accepted}
-use Rattle.reading.specs.Reader.{Reading, going, fresh, feedAll, finish, readAll, judged, Verdict}
-use Rattle.reading.proofs.ReaderLaws.{Stop}
-use Rattle.reading.proofs.Judging.{plain, Seen, progress, start, turned-pad}
-use Rattle.reading.proofs.Lax.{shape, padsAfter, pads-kept, pads-none, refilled-shape}
-use Rattle.reading.proofs.LaxJudging.{Closed, Tidy, closed-tidy, ended}
-use Rattle.reading.proofs.LaxComplete.{accepted→accepts}
-use Rattle.reading.proofs.Continuations.{kept-high, own-stays}
-use Rattle.reading.proofs.OptionLaws.{allowed-alphabet, allowed-case}
-use Rattle.reading.proofs.LimitLaws.{limit-whole}
-use Rattle.reading.proofs.Final.{written-once}
+use Rattle.reading.specs.Reader.{Reading, going, fresh, feedAll, finish, readAll, judged}
 use Rattle.reading.specs.Promises.{Promised}
 use Rattle.reading.specs.Tidying.{Tidied}
+use Rattle.reading.proofs.ReaderLaws.{Stop}
+use Rattle.reading.proofs.PlainText.{plain, turned-pad, kept-high, own-stays}
+use Rattle.reading.proofs.Seen.{Seen, progress, start}
+use Rattle.reading.proofs.CleaningLaws.{padsAfter, pads-kept, pads-none, refilled-shape}
+use Rattle.reading.proofs.ZeroIsAccepted.{Closed, Tidy, closed-tidy, ended}
+use Rattle.reading.proofs.AcceptedIsZero.{accepted→accepts}
+use Rattle.reading.proofs.OptionLaws.{allowed-alphabet, allowed-case}
+use Rattle.reading.proofs.LimitLaws.{limit-whole}
 use Rattle.reading.proofs.Meaning.{promised}
 use Rattle.reading.proofs.Strict.{strict-cleans-nothing}
 
@@ -55,9 +56,6 @@ cleared-length a opts t =
     go : (x : Bool) → length (cond x (set t (length t - (padRun t + 1)) (clearedDigit a (spare a (padRun t)) (getD t (length t - (padRun t + 1)) 0))) t) ≡ length t
     go true = length-set t _ _
     go false = refl
-
-shape-length : (a : ℕ) (ds : List ℕ) (p : ℕ) → length (shape a ds p) ≡ length ds + p
-shape-length a ds p = simp (length-append, length-map, length-replicate)
 
 -- ---- canonical texts
 
@@ -91,7 +89,7 @@ module _ (a opts : ℕ) (ok : allowed a opts ≡ true) where
   plain-shape : (ds : List ℕ) (p : ℕ) → Below (2 ^ bits a) ds → plain a opts (shape a ds p) ≡ shape a ds p
   unfolding kept
   plain-shape [] p l = plain-pads p
-  plain-shape (v ∷ ds) p l = rw (kept-high opts (digit a v) (digit-high a h (l .0)), digit-stays (l .0), plain-shape ds p (l .1))
+  plain-shape (v ∷ ds) p l = rw (kept-high opts (digit a v) (digit-printable a h (l .0) .0), digit-stays (l .0), plain-shape ds p (l .1))
 
   pub canonical-stays : (t : List ℕ) → Canonical a t → clean a opts t ≡ t
   unfolding clean spelled
@@ -134,7 +132,7 @@ module _ (a opts : ℕ) (ok : allowed a opts ≡ true) where
           ∙ ap length (ap (refilled a opts) (s .spelt) ∙ refilled-shape a h opts ds (s .pads) (s .below))
           ∙ shape-length a ds (padsAfter a opts ds (s .pads))
           ∙ ap (λ (n : ℕ). length ds + n) (k .pads) in
-          rw whole (wanting-within (group a) (length ds) limit (group-pos a h) (group-in-eight a h limit limit-whole) (omega arith))
+          rw whole (fill-most (group a) (length ds) limit (group-pos a h) (eights-group a h limit limit-whole) (omega arith))
 
   -- a text that is the written form of bytes, and fits, is read as these bytes
   reads-back : (t bytes : List ℕ) → Below 256 bytes → written a bytes ≡ t → length t ≤ limit

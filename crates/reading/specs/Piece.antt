@@ -1,7 +1,7 @@
 -- 01, "Streams": a reader's step takes bytes until the piece is taken, a byte is refused, or the room is full for the byte that needs it. Here
 -- stand rule (g), the room, and rule (a), the limit, each once. Assumes nothing.
 use Prim.Native.Nat.{ℕ, zero, suc, _+_, _-_}
-use mathlib.Core.Bool.{Bool, cond}
+use mathlib.Core.Bool.{cond}
 use mathlib.Core.List.{List, [], _∷_, _++_}
 use lib.Dec.{ltb}
 use lib.ListN.{length, take}

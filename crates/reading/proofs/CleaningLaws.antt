@@ -1,33 +1,26 @@
--- The cleaning of a text of digits and pads. Assumes nothing.
-use Prim.Native.Nat.{ℕ, zero, suc, _+_, _-_, _*_, _/_, _%_, _^_, _<_, _≤_}
-use mathlib.Core.Path.{_≡_, refl, sym, ap, ap₂, _∙_, subst}
-use mathlib.Core.Logic.{_⊎_, inl, inr, _≢_, _↔_}
-use mathlib.Core.Bool.{Bool, true, false, cond, not, _&&_, _||_}
-use mathlib.Core.List.{List, [], _∷_, _++_, map, append-assoc, append-nil, map-append}
-use native.Mathlib.Nat.{add-zero, add-assoc, mod-lt, mul-suc, mul-mod-left}
+-- Steps 3 and 4 of cleaning, on a text of digits and pads: which pads are added, and that a last digit whose spare bits are cleared leaves the whole
+-- bytes as they are. Assumes nothing.
+use Prim.Native.Nat.{ℕ, zero, suc, _+_, _-_, _*_, _/_, _%_, _^_, _<_}
+use mathlib.Core.Path.{_≡_, refl, sym, ap, _∙_}
+use mathlib.Core.Bool.{Bool, true, false, cond, not, _&&_}
+use mathlib.Core.List.{List, [], _∷_, _++_, map, append-assoc, append-nil}
+use native.Mathlib.Nat.{mod-lt, mul-suc, mul-mod-left}
 use native.Mathlib.Omega.{arith}
-use lib.Dec.{T, eqb, ltb, eqb→eq}
-use lib.ListN.{length, getD, set, length-append, length-map, length-replicate, replicate, replicate-append-replicate}
+use lib.Dec.{eqb, ltb}
+use lib.ListN.{length, getD, set, length-append, length-map, length-replicate, replicate}
 use lib.Seq.{set-at, getD-at}
-use borrow.Author.Tests.{ltb-true, ltb-false, lt-ltb, le-ltb, eqb-true, eqb-false, eq-eqb, ne-eqb}
+use lib.Pow.{pow-pos, shl-shr}
+use borrow.Author.Tests.{lt-ltb, eqb-true, eq-eqb, ne-eqb}
 use Rattle.alphabet.specs.Bits.{Below, bitsOf, unpack, pack}
+use Rattle.alphabet.specs.Digits.{bytesOf, leftOf}
+use Rattle.alphabet.specs.Alphabet.{bits, group, spare, digit, isDigit, padded, pad}
+use Rattle.alphabet.specs.Written.{wanting}
 use Rattle.alphabet.proofs.BitLaws.{Regrouped, bits-split, bits-mod, bits-length, unpack-append, unpack-length, unpack-pack, pack-below}
 use Rattle.alphabet.proofs.DigitLaws.{regrouped-left, regrouped-bytes}
-use Rattle.reading.proofs.Judging.{digit-is}
-use lib.Pow.{pow-pos, shl-shr}
-use Rattle.alphabet.specs.Digits.{bytesOf, leftOf, Whole}
-use Rattle.alphabet.specs.Alphabet.{bits, group, tail, spare, value, digit, isDigit, padded, isPad, pad}
-use Rattle.alphabet.proofs.AlphabetLaws.{bits-low, bits-high, group-pos, value-digit, value-small, digit-value, pad-no-digit, tail-padded}
-use Rattle.alphabet.specs.Written.{wanting, spelled, Canonical}
+use Rattle.alphabet.proofs.AlphabetLaws.{value-digit}
+use Rattle.alphabet.proofs.Shapes.{shape, shape-last, digit-is, digit-no-pad}
 use Rattle.reading.specs.Options.{anySpare, nopad}
 use Rattle.reading.specs.Cleaning.{has, refilled, padRun, clearedDigit, cleared}
-
--- digits of the values ds, and p pads
-abbrev pub shape : ℕ → List ℕ → ℕ → List ℕ
-shape a ds p = map (digit a) ds ++ replicate p pad
-
-pub digit-no-pad : (a : ℕ) → a < 6 → {v : ℕ} → v < 2 ^ bits a → digit a v ≡ pad → ⊥
-digit-no-pad a h {v} l e = omega (arith, value-small a h l, sym (value-digit a h l) ∙ ap (value a) e ∙ pad-no-digit a h)
 
 -- ---- step 3
 
@@ -128,9 +121,6 @@ cleared-at a opts xs c p n d e m z =
     rw
     (run-shape p c xs n, k, getD-at xs c (replicate p pad) 0 (length xs) refl, e, eq-eqb (length (xs ++ c ∷ replicate p pad) % group a) 0 m, lt-ltb 0 (spare a p) z, lt-ltb p (length (xs ++ c ∷ replicate p pad)) (omega (arith, last-place xs c p)), d)
     (set-at xs c (replicate p pad) (clearedDigit a (spare a p) c) (length xs) refl)
-
-pub shape-last : (a : ℕ) (ds : List ℕ) (v p : ℕ) → shape a (ds ++ v ∷ []) p ≡ map (digit a) ds ++ digit a v ∷ replicate p pad
-shape-last a ds v p = rw (map-append, append-assoc)
 
 pub cleared-shape : (a : ℕ) → a < 6 → (opts : ℕ) (ds : List ℕ) (v p : ℕ) → v < 2 ^ bits a → anySpare opts ≡ true
     → length (shape a (ds ++ v ∷ []) p) % group a ≡ 0 → 0 < spare a p → cleared a opts (shape a (ds ++ v ∷ []) p) ≡ shape a (ds ++ clearLow (spare a p) v ∷ []) p

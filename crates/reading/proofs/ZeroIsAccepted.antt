@@ -1,35 +1,30 @@
--- The reader's answer is 0 exactly on accepted texts, under every sum of options. Assumes nothing.
-use Prim.Native.Nat.{ℕ, zero, suc, _+_, _-_, _*_, _/_, _%_, _^_, _<_, _≤_}
-use mathlib.Core.Path.{_≡_, refl, sym, ap, ap₂, _∙_, subst}
-use mathlib.Core.Logic.{_⊎_, inl, inr, _≢_, _↔_}
+-- Where the reader answers 0, the text is accepted, and its cleaned text is the written form of the good bytes. Assumes nothing.
+use Prim.Native.Nat.{ℕ, suc, _+_, _-_, _*_, _/_, _%_, _^_, _<_}
+use mathlib.Core.Path.{_≡_, refl, sym, ap, _∙_}
+use mathlib.Core.Logic.{_⊎_, inl, inr}
 use mathlib.Core.Bool.{Bool, true, false, cond, not, _&&_, _||_}
-use mathlib.Core.List.{List, [], _∷_, _++_, map, append-assoc, append-nil, map-append}
-use native.Mathlib.Nat.{add-zero, add-assoc, mod-lt, mul-suc, suc-mul, mul-mod-left, div-add-mod'}
+use mathlib.Core.List.{List, [], _∷_, _++_, map}
+use native.Mathlib.Nat.{mod-lt, zero-mod, div-mul-le-self, lt-of-le-of-lt}
 use native.Mathlib.Omega.{arith}
-use lib.Dec.{T, eqb, ltb, eqb→eq}
-use lib.ListN.{length, getD, set, length-append, length-map, length-replicate, replicate, replicate-append-replicate}
-use lib.Seq.{set-at, getD-at}
-use borrow.Author.Tests.{ltb-true, ltb-false, lt-ltb, le-ltb, eqb-true, eqb-false, eq-eqb, ne-eqb}
-use Rattle.alphabet.specs.Bits.{Below, bitsOf, unpack, pack}
-use Rattle.alphabet.proofs.BitLaws.{Regrouped, bits-split, bits-mod, bits-length, unpack-append, unpack-length, unpack-pack, pack-below}
-use Rattle.alphabet.proofs.DigitLaws.{regrouped-left, regrouped-bytes, digits-bytes, bytes-below}
-use Rattle.reading.proofs.Judging.{digit-is}
-use lib.Pow.{pow-pos, shl-shr}
-use Rattle.alphabet.specs.Digits.{bytesOf, leftOf, Whole}
-use Rattle.alphabet.specs.Alphabet.{bits, group, tail, spare, value, digit, isDigit, padded, isPad, pad}
-use Rattle.alphabet.proofs.AlphabetLaws.{bits-low, bits-high, group-pos, value-digit, value-small, digit-value, pad-no-digit, tail-padded}
-use Rattle.alphabet.specs.Written.{wanting, spelled, written, Canonical}
+use lib.Dec.{eqb, ltb}
+use lib.ListN.{length, length-append, length-map, length-replicate}
+use borrow.Author.Tests.{ltb-true, ltb-false, eqb-true, eqb-false}
+use Rattle.alphabet.specs.Bits.{Below}
+use Rattle.alphabet.specs.Digits.{bytesOf, leftOf}
+use Rattle.alphabet.specs.Alphabet.{bits, group, tail, spare, digit}
+use Rattle.alphabet.specs.Written.{wanting, spelled, written}
+use Rattle.alphabet.proofs.DigitLaws.{digits-bytes, bytes-below}
+use Rattle.alphabet.proofs.AlphabetLaws.{group-pos, tail-padded, spare-none, spare-tail}
+use Rattle.alphabet.proofs.Below.{below-snoc}
+use Rattle.alphabet.proofs.WrittenLaws.{ByDigits, wanting-none, wanting-some, last-group, InTable, in-table, table-in, full-whole}
+use Rattle.alphabet.proofs.Shapes.{shape, shape-last, digit-no-pad}
+use Rattle.alphabet.proofs.Lengths.{fill-whole}
 use Rattle.reading.specs.Options.{anySpare, nopad}
-use Rattle.reading.specs.Cleaning.{has, refilled, padRun, clearedDigit, cleared}
-use native.Mathlib.Nat.{zero-mod, div-mul-le-self, lt-of-le-of-lt, mul-comm, div-add-mod}
-use Rattle.alphabet.proofs.BitLaws.{below-snoc}
-use Rattle.alphabet.proofs.AlphabetLaws.{spare-none, spare-tail}
-use Rattle.alphabet.proofs.WrittenLaws.{ByDigits, canonical→digits, digits→canonical, wanting-none, wanting-some, last-group, InTable, in-table, table-in, whole-tail, full-whole}
-use Rattle.reading.specs.Cleaning.{kept, turned, clean, Accepted}
-use Rattle.reading.specs.Reader.{State, Reading, going, stopped, fresh, wants, ending, feed, feedAll, finish, readAll, Verdict}
-use Rattle.reading.proofs.ReaderLaws.{state, seen, Tailed, Stop}
-use Rattle.reading.proofs.Judging.{plain, Seen, progress, start}
-use Rattle.reading.proofs.Lax.{shape, shape-last, digit-no-pad, padsAfter, pads-kept, pads-added, pads-none, refilled-shape, run-shape, clearLow, cleared-none, cleared-full, cleared-shape, cleared-left, cleared-bytes}
+use Rattle.reading.specs.Cleaning.{refilled, padRun, cleared, clean, Accepted}
+use Rattle.reading.specs.Reader.{Reading, going, fresh, wants, ending, feedAll, finish, readAll}
+use Rattle.reading.proofs.ReaderLaws.{state, Tailed, Stop}
+use Rattle.reading.proofs.Seen.{Seen, progress, start}
+use Rattle.reading.proofs.CleaningLaws.{padsAfter, pads-kept, pads-added, pads-none, refilled-shape, run-shape, clearLow, cleared-none, cleared-full, cleared-shape, cleared-left, cleared-bytes}
 
 -- digits and pads that make an accepted text
 pub record Closed (a opts : ℕ) (ds : List ℕ) (p : ℕ) : Type 0 where
@@ -60,16 +55,6 @@ pub below-last : (m : ℕ) (ds : List ℕ) {v : ℕ} → Below m (ds ++ v ∷ []
 below-last m [] l = (tt, l .0)
 below-last m (x ∷ ds) l = let r = below-last m ds (l .1) in ((l .0, r .0), r .1)
 
-pub wanting-fills : (g n : ℕ) → 0 < g → (n + wanting g n) % g ≡ 0
-wanting-fills g n h = go (eqb (n % g) 0) refl
-  where
-    go : (x : Bool) → eqb (n % g) 0 ≡ x → (n + wanting g n) % g ≡ 0
-    go true e = rw (wanting-none g n (eqb-true (n % g) 0 e), add-zero) (eqb-true (n % g) 0 e)
-    go false e =
-        let l : 0 < n % g = omega (arith, eqb-false (n % g) 0 e) in
-        let k : n + (g - n % g) ≡ suc (n / g) * g = omega (arith, div-add-mod' n g, mod-lt n h, suc-mul (n / g) g) in
-        rw (wanting-some g n h l, k) (mul-mod-left (suc (n / g)) g)
-
 run-none : (a : ℕ) → a < 6 → (ds : List ℕ) → Below (2 ^ bits a) ds → padRun (shape a ds 0) ≡ 0
 unfolding padRun
 run-none a h ds l = go (snoc ds) l
@@ -92,7 +77,7 @@ module _ (a : ℕ) (h : a < 6) (opts : ℕ) where
       let st : (spare a (tail a (n % group a)) ≡ bits a * (n % group a) % 8) × (0 < bits a * (n % group a) % 8) = spare-tail a h lt (omega arith) in
       let sw : spare a w ≡ bits a * n % 8 = ap (spare a) (sym tw) ∙ st .0 ∙ sym (last-group a h n) in
       let v< : v < 2 ^ bits a = below-last (2 ^ bits a) ds l .1 in
-      let full : length (shape a (ds ++ v ∷ []) w) % group a ≡ 0 = simp (length-append (map (digit a) (ds ++ v ∷ [])), length-map, length-replicate) (wanting-fills (group a) n (group-pos a h)) in
+      let full : length (shape a (ds ++ v ∷ []) w) % group a ≡ 0 = simp (length-append (map (digit a) (ds ++ v ∷ [])), length-map, length-replicate) (fill-whole (group a) n (group-pos a h)) in
       let c : ℕ = clearLow (spare a w) v in
       let same : length (ds ++ c ∷ []) ≡ n = length-append ds (c ∷ []) ∙ sym (length-append ds (v ∷ [])) in
       let longer : suc (length ds) ≡ n = omega (arith, length-append ds (v ∷ [])) in
