@@ -15,3 +15,4 @@ pub mod TableLaws
 pub mod RegroupLaws
 pub mod Edges
 pub mod Parting
+pub mod SpareBits

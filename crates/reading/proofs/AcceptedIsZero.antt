@@ -9,14 +9,14 @@ use native.Mathlib.Omega.{arith}
 use lib.Dec.{eqb, ltb}
 use lib.ListN.{length, replicate}
 use borrow.Author.Tests.{ltb-true, ltb-false, eqb-true, eqb-false, eq-eqb, ne-eqb}
+use Rattle.alphabet.specs.Alphabet.{isDigit, bits, group, tail, value, digit, padded, pad}
 use Rattle.alphabet.specs.Bits.{Below}
 use Rattle.alphabet.specs.Digits.{bytesOf, leftOf}
-use Rattle.alphabet.specs.Alphabet.{bits, group, tail, value, digit, isDigit, padded, pad}
-use Rattle.alphabet.specs.Written.{wanting, spelled, Canonical}
-use Rattle.alphabet.proofs.AlphabetLaws.{group-pos, value-digit, pad-no-digit, tail-padded}
+use Rattle.alphabet.specs.Written.{wanting, Canonical}
+use Rattle.alphabet.proofs.Symbols.{pad-is-no-digit, pad-is}
+use Rattle.alphabet.proofs.Shapes.{spelled-is, shape, digit-is}
+use Rattle.alphabet.proofs.AlphabetLaws.{group-pos, value-digit, tail-padded}
 use Rattle.alphabet.proofs.WrittenLaws.{ByDigits, canonical→digits, wanting-none, wanting-some, last-group, table-in}
-use Rattle.alphabet.proofs.Shapes.{shape, digit-is}
-use Rattle.alphabet.proofs.Symbols.{pad-is}
 use Rattle.reading.specs.Options.{anySpare, nopad}
 use Rattle.reading.specs.Cleaning.{refilled, cleared, kept, turned, clean, Accepted, dropped}
 use Rattle.reading.specs.Reader.{Reading, wants, onPad, follow, ending, feed, feedAll, finish, readAll}
@@ -31,9 +31,9 @@ use Rattle.reading.proofs.CleaningBack.{Shape, cleared-back, refilled-b
 
 feed-next : (a : ℕ) → a < 6 → (opts : ℕ) (ds : List ℕ) (p i c : ℕ) → dropped opts c ≡ false → turned a opts c ≡ pad → p < tail a (length ds % group a)
     → (anySpare opts ≡ false → leftOf (bits a) ds ≡ 0) → feed a opts (seen a ds p i) c ≡ seen a ds (p + 1) (i + 1)
-unfolding onPad follow wants isDigit
+unfolding onPad follow wants
 feed-next a h opts ds p i c f e l z =
-    to-pad a opts ds p i c f (rw (e, pad-no-digit a h)) (rw (turned-back a opts c e) (pad-is a (tail-padded a h (mod-lt (length ds) (group-pos a h)) (omega arith))))
+    to-pad a opts ds p i c f (ap (isDigit a) e ∙ pad-is-no-digit a h) (rw (turned-back a opts c e) (pad-is a (tail-padded a h (mod-lt (length ds) (group-pos a h)) (omega arith))))
     ∙ go (ltb 0 p) refl (eqb (leftOf (bits a) ds) 0) refl (anySpare opts) refl
   where
     go : (x : Bool) → ltb 0 p ≡ x → (y : Bool) → eqb (leftOf (bits a) ds) 0 ≡ y → (w : Bool) → anySpare opts ≡ w
@@ -137,7 +137,7 @@ closed-ends a h opts ds p c = go (ltb 0 p) refl (eqb (length ds % group a) 0) re
         }
 
 pub accepted→accepts : (a : ℕ) → a < 6 → (opts : ℕ) (t : List ℕ) → Accepted a opts t → readAll a opts t .answer ≡ 0
-unfolding readAll finish clean spelled
+unfolding readAll finish clean
 accepted→accepts a h opts t c =
     let s : Shape a (plain a opts t) =
     refilled-back a opts (plain a opts t) (cleared-back a h opts (refilled a opts (plain a opts t)) (whole (canonical→digits a h c))) in
@@ -149,7 +149,7 @@ accepted→accepts a h opts t c =
     ∙ e .zero-answer (0 + length t)
   where
     whole : {u : List ℕ} → ByDigits a u → Shape a u
-    whole d = record { values = d .values; pads = wanting (group a) (length (d .values)); below = d .below; form = d .form }
+    whole d = record { values = d .values; pads = wanting (group a) (length (d .values)); below = d .below; form = sym (spelled-is a (d .values)) ∙ d .form }
 
 -- 0 exactly on accepted texts
 pub judged-iff : (a : ℕ) → a < 6 → (opts : ℕ) (t : List ℕ) → (readAll a opts t .answer ≡ 0) ↔ Accepted a opts t

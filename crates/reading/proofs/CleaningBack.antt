@@ -13,15 +13,16 @@ use borrow.Author.Tests.{ltb-true, ltb-false}
 use Rattle.alphabet.specs.Bits.{Below}
 use Rattle.alphabet.specs.Digits.{leftOf}
 use Rattle.alphabet.specs.Alphabet.{bits, group, spare, value, digit, isDigit, padded, pad}
-use Rattle.alphabet.specs.Written.{wanting, spelled, Canonical}
+use Rattle.alphabet.specs.Written.{wanting, Canonical}
+use Rattle.alphabet.proofs.Shapes.{spelled-is, shape, shape-last, unique, digit-no-pad}
+use Rattle.alphabet.proofs.SpareBits.{clearLow}
 use Rattle.alphabet.proofs.AlphabetLaws.{value-digit}
 use Rattle.alphabet.proofs.Below.{below-snoc, below-set}
 use Rattle.alphabet.proofs.WrittenLaws.{ByDigits, canonical→digits}
-use Rattle.alphabet.proofs.Shapes.{shape, shape-last, unique, digit-no-pad}
 use Rattle.alphabet.proofs.Symbols.{IsDigit, is-digit}
 use Rattle.reading.specs.Options.{anySpare, nopad}
 use Rattle.reading.specs.Cleaning.{has, refilled, padRun, clearedDigit, cleared}
-use Rattle.reading.proofs.CleaningLaws.{padsAfter, refilled-shape, run-shape, clearLow, cleared-none, run-pads, last-place}
+use Rattle.reading.proofs.CleaningLaws.{padsAfter, refilled-shape, run-shape, cleared-none, run-pads, last-place}
 use Rattle.reading.proofs.ZeroIsAccepted.{Closed, Snoc, none, some, snoc, below-last}
 
 -- ---- texts of digits and pads
@@ -184,14 +185,13 @@ cleared-kept a h opts ds p l = pick (anySpare opts) refl
 
 pub accepted-closed : (a : ℕ) → a < 6 → (opts : ℕ) (ds : List ℕ) (p : ℕ) → Below (2 ^ bits a) ds
     → Canonical a (cleared a opts (refilled a opts (shape a ds p))) → Closed a opts ds p
-unfolding spelled
 accepted-closed a h opts ds p l c =
     let q : ℕ = padsAfter a opts ds p in
     let c′ : Canonical a (cleared a opts (shape a ds q)) = rw (refilled-shape a h opts ds p l) at c in
     let d : ByDigits a (cleared a opts (shape a ds q)) = canonical→digits a h c′ in
     let k : Kept a opts ds q = cleared-kept a h opts ds q l in
     let u : (d .values ≡ k .values) × (wanting (group a) (length (d .values)) ≡ q) =
-    unique a h (d .values) (k .values) (wanting (group a) (length (d .values))) q (d .below) (k .below) (d .form ∙ k .form) in
+    unique a h (d .values) (k .values) (wanting (group a) (length (d .values))) q (d .below) (k .below) (sym (spelled-is a (d .values)) ∙ d .form ∙ k .form) in
     let n : length (d .values) ≡ length ds = ap length (u .0) ∙ k .size in
     record {
       pads = sym (u .1) ∙ ap (wanting (group a)) n;

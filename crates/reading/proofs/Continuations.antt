@@ -13,7 +13,7 @@ use Rattle.alphabet.specs.Digits.{bytesOf}
 use Rattle.alphabet.specs.Alphabet.{bits, group, tail, digit, pad}
 use Rattle.alphabet.specs.Written.{wanting, written}
 use Rattle.alphabet.proofs.AlphabetLaws.{group-pos}
-use Rattle.alphabet.proofs.DigitLaws.{digits-bytes, bytes-below}
+use Rattle.alphabet.proofs.DigitLaws.{bytes-below}
 use Rattle.alphabet.proofs.Edges.{edge, edge-below, edge-own}
 use Rattle.alphabet.proofs.Symbols.{digit-printable, digit-byte}
 use Rattle.alphabet.proofs.Below.{below-append, below-replicate}
@@ -27,7 +27,7 @@ use Rattle.reading.proofs.ReaderLaws.{Tailed, Stop}
 use Rattle.reading.proofs.PlainText.{plain, plain-append, turned-pad, kept-high, own-stays}
 use Rattle.reading.proofs.Seen.{Seen, feed-append, feed-stopped}
 use Rattle.reading.proofs.CleaningLaws.{pads-kept, pads-none}
-use Rattle.reading.proofs.ZeroIsAccepted.{closed-tidy, Tidy, by-table, Closed}
+use Rattle.reading.proofs.ZeroIsAccepted.{closed-tidy, tidy-written, by-table, Closed}
 use Rattle.reading.proofs.AcceptedIsZero.{accepted→accepts}
 
 -- ---- lists of one value
@@ -59,10 +59,10 @@ module _ (a : ℕ) (h : a < 6) (opts : ℕ) where
 
   -- the bytes of a text of closed digits and pads are those of its digits
   written-by : (t ds : List ℕ) (p : ℕ) → Below (2 ^ bits a) ds → plain a opts t ≡ shape a ds p → Closed a opts ds p → written a (bytesOf (bits a) ds) ≡ clean a opts t
-  unfolding clean written
+  unfolding clean
   written-by t ds p l e c =
-      let y : Tidy a ds (cleared a opts (refilled a opts (shape a ds p))) = closed-tidy a h opts ds p l c in
-      rw (e, ← y .same, digits-bytes (bits a) (y .digits .values) (y .digits .below) (y .digits .whole)) (y .digits .form)
+      tidy-written a ds (cleared a opts (refilled a opts (shape a ds p))) (closed-tidy a h opts ds p l c)
+      ∙ ap (λ (u : List ℕ). cleared a opts (refilled a opts u)) (sym e)
 
   module _ (t : List ℕ) (r : Reading) (s : Seen a opts t r) where
     -- padding that was begun is completed, and adds no byte

@@ -13,13 +13,13 @@ use Rattle.alphabet.specs.Bits.{Below}
 use Rattle.alphabet.specs.Digits.{digitsOf}
 use Rattle.alphabet.specs.Alphabet.{bits, group, digit, isDigit, pad, spare}
 use Rattle.alphabet.specs.Written.{wanting, spelled, written, Canonical}
+use Rattle.alphabet.proofs.Shapes.{spelled-is, shape, shape-length, written-once}
 use Rattle.alphabet.proofs.AlphabetLaws.{group-pos}
 use Rattle.alphabet.proofs.Edges.{digit-own}
 use Rattle.alphabet.proofs.Symbols.{digit-printable}
 use Rattle.alphabet.proofs.DigitLaws.{digits-bytes}
 use Rattle.alphabet.proofs.Lengths.{eights-group, fill-most}
 use Rattle.alphabet.proofs.WrittenLaws.{ByDigits, canonical→digits}
-use Rattle.alphabet.proofs.Shapes.{shape, shape-length, written-once}
 use Rattle.reading.specs.Options.{anyCase, anySpare, allowed}
 use Rattle.reading.specs.Limit.{limit}
 use Rattle.reading.specs.Cleaning.{dropped, kept, turned, refilled, padRun, clearedDigit, cleared, clean, Accepted}
@@ -92,7 +92,7 @@ module _ (a opts : ℕ) (ok : allowed a opts ≡ true) where
   plain-shape (v ∷ ds) p l = rw (kept-high opts (digit a v) (digit-printable a h (l .0) .0), digit-stays (l .0), plain-shape ds p (l .1))
 
   pub canonical-stays : (t : List ℕ) → Canonical a t → clean a opts t ≡ t
-  unfolding clean spelled
+  unfolding clean
   canonical-stays t c =
       let d : ByDigits a t = canonical→digits a h c in
       let ds : List ℕ = d .values in
@@ -103,7 +103,8 @@ module _ (a opts : ℕ) (ok : allowed a opts ≡ true) where
       sym (digits-bytes (bits a) (y .digits .values) (y .digits .below) (y .digits .whole))
       ∙ ap (digitsOf (bits a)) (y .same)
       ∙ digits-bytes (bits a) ds (d .below) (d .whole) in
-      ap (clean a opts) (sym (d .form))
+      let form : shape a ds w ≡ t = sym (spelled-is a ds) ∙ d .form in
+      ap (clean a opts) (sym form)
       ∙ ap (λ (u : List ℕ). cleared a opts (refilled a opts u)) (plain-shape ds w (d .below))
       ∙ sym (y .digits .form)
       ∙ ap (spelled a) same

@@ -9,22 +9,23 @@ use native.Mathlib.Omega.{arith}
 use lib.Dec.{eqb, ltb}
 use lib.ListN.{length, length-append, length-map, length-replicate}
 use borrow.Author.Tests.{ltb-true, ltb-false, eqb-true, eqb-false}
+use Rattle.alphabet.specs.Digits.{digitsOf, bytesOf, leftOf}
+use Rattle.alphabet.specs.Written.{spelled, wanting, written}
 use Rattle.alphabet.specs.Bits.{Below}
-use Rattle.alphabet.specs.Digits.{bytesOf, leftOf}
 use Rattle.alphabet.specs.Alphabet.{bits, group, tail, spare, digit}
-use Rattle.alphabet.specs.Written.{wanting, spelled, written}
+use Rattle.alphabet.proofs.Shapes.{spelled-is, written-spelled, shape, shape-last, digit-no-pad}
+use Rattle.alphabet.proofs.SpareBits.{clearLow, cleared-left, cleared-bytes}
 use Rattle.alphabet.proofs.DigitLaws.{digits-bytes, bytes-below}
 use Rattle.alphabet.proofs.AlphabetLaws.{group-pos, tail-padded, spare-none, spare-tail}
 use Rattle.alphabet.proofs.Below.{below-snoc}
 use Rattle.alphabet.proofs.WrittenLaws.{ByDigits, wanting-none, wanting-some, last-group, InTable, in-table, table-in, full-whole}
-use Rattle.alphabet.proofs.Shapes.{shape, shape-last, digit-no-pad}
 use Rattle.alphabet.proofs.Lengths.{fill-whole}
 use Rattle.reading.specs.Options.{anySpare, nopad}
 use Rattle.reading.specs.Cleaning.{refilled, padRun, cleared, clean, Accepted}
 use Rattle.reading.specs.Reader.{Reading, going, fresh, wants, ending, feedAll, finish, readAll}
 use Rattle.reading.proofs.ReaderLaws.{state, Tailed, Stop}
 use Rattle.reading.proofs.Seen.{Seen, progress, start}
-use Rattle.reading.proofs.CleaningLaws.{padsAfter, pads-kept, pads-added, pads-none, refilled-shape, run-shape, clearLow, cleared-none, cleared-full, cleared-shape, cleared-left, cleared-bytes}
+use Rattle.reading.proofs.CleaningLaws.{padsAfter, pads-kept, pads-added, pads-none, refilled-shape, run-shape, cleared-none, cleared-full, cleared-shape}
 
 -- digits and pads that make an accepted text
 pub record Closed (a opts : ℕ) (ds : List ℕ) (p : ℕ) : Type 0 where
@@ -39,6 +40,15 @@ pub record Tidy (a : ℕ) (ds t : List ℕ) : Type 0 where
   pub digits : ByDigits a t
   pub same : bytesOf (bits a) (digits .values) ≡ bytesOf (bits a) ds
 
+-- such a text is the written form of these bytes
+pub tidy-written : (a : ℕ) (ds t : List ℕ) → Tidy a ds t → written a (bytesOf (bits a) ds) ≡ t
+tidy-written a ds t y =
+    written-spelled a (bytesOf (bits a) ds)
+    ∙ ap (λ (bytes : List ℕ). spelled a (digitsOf (bits a) bytes)) (sym (y .same))
+    ∙ ap (spelled a) (digits-bytes (bits a) (y .digits .values) (y .digits .below) (y .digits .whole))
+    ∙ y .digits .form
+
+-- a list is empty, or has a last element
 pub data Snoc : List ℕ → Type 0 where
   none : Snoc []
   some : (ds : List ℕ) (v : ℕ) → Snoc (ds ++ v ∷ [])
@@ -67,7 +77,6 @@ module _ (a : ℕ) (h : a < 6) (opts : ℕ) where
   -- the last digit's spare bits are cleared
   spelled-last : (ds : List ℕ) (v : ℕ) → Below (2 ^ bits a) (ds ++ v ∷ []) → bits a * length (ds ++ v ∷ []) % 8 < bits a → 0 < length (ds ++ v ∷ []) % group a
       → anySpare opts ≡ true → Tidy a (ds ++ v ∷ []) (cleared a opts (shape a (ds ++ v ∷ []) (wanting (group a) (length (ds ++ v ∷ [])))))
-  unfolding spelled
   spelled-last ds v l f k e =
       let n : ℕ = length (ds ++ v ∷ []) in
       let w : ℕ = wanting (group a) n in
@@ -89,7 +98,7 @@ module _ (a : ℕ) (h : a < 6) (opts : ℕ) where
               values = ds ++ c ∷ [];
               below = below-snoc (2 ^ bits a) ds (below-last (2 ^ bits a) ds l .0) (lt-of-le-of-lt (div-mul-le-self v (2 ^ spare a w)) v<);
               whole = record { few = rw same f; clear = cleared-left (bits a) ds v (spare a w) (bits a * n / 8) (omega (arith, sw)) (omega (arith, sw)) size };
-              form = rw same;
+              form = spelled-is a (ds ++ c ∷ []) ∙ ap (λ (m : ℕ). shape a (ds ++ c ∷ []) (wanting (group a) m)) same;
             };
         same = cleared-bytes (bits a) ds v (spare a w) (bits a * n / 8) (omega (arith, sw)) (omega (arith, sw)) size;
       })
@@ -103,20 +112,19 @@ module _ (a : ℕ) (h : a < 6) (opts : ℕ) where
       go (some fs v) l f k = spelled-last fs v l f k e
 
   pub closed-tidy : (ds : List ℕ) (p : ℕ) → Below (2 ^ bits a) ds → Closed a opts ds p → Tidy a ds (cleared a opts (refilled a opts (shape a ds p)))
-  unfolding spelled
   closed-tidy ds p l c =
       rw (refilled-shape a h opts ds p l, c .pads) (go (anySpare opts) refl (eqb (length ds % group a) 0) refl)
     where
       go : (x : Bool) → anySpare opts ≡ x → (y : Bool) → eqb (length ds % group a) 0 ≡ y → Tidy a ds (cleared a opts (shape a ds (wanting (group a) (length ds))))
       go false e y f =
           rw (cleared-none a opts (shape a ds (wanting (group a) (length ds))) e)
-          (record { digits = record { values = ds; below = l; whole = record { few = c .few; clear = c .clear e }; form = refl }; same = refl })
+          (record { digits = record { values = ds; below = l; whole = record { few = c .few; clear = c .clear e }; form = spelled-is a ds }; same = refl })
       go true e true f =
           let z : length ds % group a ≡ 0 = eqb-true (length ds % group a) 0 f in
           let w : wanting (group a) (length ds) ≡ 0 = wanting-none (group a) (length ds) z in
           let s : spare a (padRun (shape a ds (wanting (group a) (length ds)))) ≡ 0 = rw (w, run-none a h ds l) (spare-none a h) in
           rw (cleared-full a opts (shape a ds (wanting (group a) (length ds))) s)
-          (record { digits = record { values = ds; below = l; whole = full-whole a h ds z; form = refl }; same = refl })
+          (record { digits = record { values = ds; below = l; whole = full-whole a h ds z; form = spelled-is a ds }; same = refl })
       go true e false f = spelled-clear ds l (c .few) (omega (arith, eqb-false (length ds % group a) 0 f)) e
 
   -- ---- what the reader's end says
@@ -165,7 +173,7 @@ module _ (a : ℕ) (h : a < 6) (opts : ℕ) where
 
   -- answer 0: the cleaned text is the written form of the good bytes
   pub accepts→written : (t : List ℕ) → readAll a opts t .answer ≡ 0 → written a (readAll a opts t .good) ≡ clean a opts t
-  unfolding readAll finish clean written
+  unfolding readAll finish clean
   accepts→written t e = go (progress a h opts [] t (going fresh []) (start a opts))
     where
       go : Seen a opts t (feedAll a opts (going fresh []) t) ⊎ Stop (feedAll a opts (going fresh []) t) → written a (readAll a opts t .good) ≡ clean a opts t
@@ -173,7 +181,7 @@ module _ (a : ℕ) (h : a < 6) (opts : ℕ) where
           let y : Tidy a (s .values) (cleared a opts (refilled a opts (shape a (s .values) (s .pads)))) =
           closed-tidy (s .values) (s .pads) (s .below)
           (ended (s .values) (s .pads) (length t) (s .tailed) (sym (ap (λ (z : Reading). finish a opts z .answer) (s .here)) ∙ e)) in
-          rw (s .spelt, s .here, ← y .same, digits-bytes (bits a) (y .digits .values) (y .digits .below) (y .digits .whole)) (y .digits .form)
+          rw (s .spelt, s .here) (tidy-written a (s .values) (cleared a opts (refilled a opts (shape a (s .values) (s .pads)))) y)
       go (inr x) = absurd (omega (arith, x .4, sym (ap (λ (z : Reading). finish a opts z .answer) (x .3)) ∙ e))
 
   pub good-below : (t : List ℕ) → readAll a opts t .answer ≡ 0 → Below 256 (readAll a opts t .good)
