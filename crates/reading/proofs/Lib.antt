@@ -18,4 +18,6 @@ pub mod Tidied
 pub mod PieceLaws
 pub mod PieceLimit
 pub mod PieceCuts
+pub mod Joined
+pub mod PieceJudged
 pub mod Known

@@ -120,3 +120,19 @@ stopped-where a opts s out (c ∷ t) k i end e = go (step-moves a opts s c) refl
           before = rw oe;
           through = rw (f, kj, ij, oe);
         }
+
+-- ---- a reader that goes on has taken all
+
+pub going-taken : (a opts : ℕ) (s n : State) (out end t : List ℕ) → feedAll a opts (going s out) t ≡ going n end → n .taken ≡ s .taken + length t
+unfolding feedAll feed follow
+going-taken a opts s n out end [] e = let z : n ≡ s = cc in ap (λ (m : State). m .taken) z ∙ omega arith
+going-taken a opts s n out end (c ∷ t) e = go (step-moves a opts s c) refl (λ m o. going-taken a opts m n o end t)
+  where
+    go : {x : Step} → Moves s x → step a opts s c ≡ x → ((m : State) (o : List ℕ) → feedAll a opts (going m o) t ≡ going n end → n .taken ≡ m .taken + length t)
+        → n .taken ≡ s .taken + suc (length t)
+    go (took {n = m} l) f rec = omega (arith, rec m out (rw f at e))
+    go (gave {x} {n = m} l) f rec = omega (arith, rec m (out ++ x ∷ []) (rw f at e))
+    go (blamed {k = j} l h) f rec =
+        let w : feedAll a opts (going s out) (c ∷ t) ≡ stopped j (s .taken) out = rw f (stays a opts j (s .taken) out t) in
+        let y : going n end ≡ stopped j (s .taken) out = sym e ∙ w in
+        absurd (let z : _≡_ {A = ℕ} 0 1 = cc in omega arith)

@@ -51,7 +51,7 @@ unfolding feedAll
 reading-adds a opts r [] = begins-all (given r)
 reading-adds a opts r (c ∷ t) = begins-trans (feed-adds a opts r c) (reading-adds a opts (feed a opts r c) t)
 
-good-given : (a opts : ℕ) (r : Reading) → finish a opts r .good ≡ given r
+pub good-given : (a opts : ℕ) (r : Reading) → finish a opts r .good ≡ given r
 unfolding finish
 good-given a opts (going s out) = refl
 good-given a opts (stopped k i out) = refl
