@@ -12,6 +12,7 @@ use Rattle.alphabet.specs.Alphabet.{bits, value, isDigit, isPad}
 use Rattle.reading.specs.Options.{anySpare}
 use Rattle.reading.specs.Cleaning.{dropped, turned}
 use Rattle.reading.specs.Reader.{State, Step, takes, gives, refuses, Reading, going, stopped, wants, heldBits, passes, onDigit, onPad, step, follow, feed, feedAll}
+use Rattle.reading.proofs.Seen.{feed-stopped}
 
 -- ---- one byte
 
@@ -71,11 +72,6 @@ pub record Stopping (a opts : ℕ) (s : State) (out t : List ℕ) (k i : ℕ) (e
   pub before : feedAll a opts (going s out) (take n t) ≡ going at end
   pub through : feedAll a opts (going s out) (take (n + 1) t) ≡ stopped k i end
 
-stays : (a opts k i : ℕ) (out t : List ℕ) → feedAll a opts (stopped k i out) t ≡ stopped k i out
-unfolding feedAll feed
-stays a opts k i out [] = refl
-stays a opts k i out (c ∷ t) = stays a opts k i out t
-
 later : (a opts : ℕ) (s n : State) (out out′ : List ℕ) (c : ℕ) (t : List ℕ) (k i : ℕ) (end : List ℕ) → feed a opts (going s out) c ≡ going n out′
     → n .taken ≡ s .taken + 1 → Stopping a opts n out′ t k i end → Stopping a opts s out (c ∷ t) k i end
 unfolding feedAll
@@ -105,7 +101,7 @@ stopped-where a opts s out (c ∷ t) k i end e = go (step-moves a opts s c) refl
     go (gave {x} {n} m) f rec =
         later a opts s n out (out ++ x ∷ []) c t k i end (ap (follow s out) f) m (rec n (out ++ x ∷ []) (rw f at e))
     go (blamed {k = j} l m) f rec =
-        let w : feedAll a opts (going s out) (c ∷ t) ≡ stopped j (s .taken) out = rw f (stays a opts j (s .taken) out t) in
+        let w : feedAll a opts (going s out) (c ∷ t) ≡ stopped j (s .taken) out = rw f (feed-stopped a opts j (s .taken) out t) in
         let z : stopped k i end ≡ stopped j (s .taken) out = sym e ∙ w in
         let kj : k ≡ j = cc in
         let ij : i ≡ s .taken = cc in
@@ -133,6 +129,6 @@ going-taken a opts s n out end (c ∷ t) e = go (step-moves a opts s c) refl (λ
     go (took {n = m} l) f rec = omega (arith, rec m out (rw f at e))
     go (gave {x} {n = m} l) f rec = omega (arith, rec m (out ++ x ∷ []) (rw f at e))
     go (blamed {k = j} l h) f rec =
-        let w : feedAll a opts (going s out) (c ∷ t) ≡ stopped j (s .taken) out = rw f (stays a opts j (s .taken) out t) in
+        let w : feedAll a opts (going s out) (c ∷ t) ≡ stopped j (s .taken) out = rw f (feed-stopped a opts j (s .taken) out t) in
         let y : going n end ≡ stopped j (s .taken) out = sym e ∙ w in
         absurd (let z : _≡_ {A = ℕ} 0 1 = cc in omega arith)

@@ -87,7 +87,8 @@ pub record Tailed (a opts : ℕ) (ds : List ℕ) (p : ℕ) : Type 0 where
 abbrev pub Stop : Reading → Type 0
 Stop r = (k : ℕ) × (i : ℕ) × (out : List ℕ) × (r ≡ stopped k i out) × (0 < k)
 
-and-false : (p q : Bool) → not p && not q ≡ false → q ≡ false → p ≡ true
+-- of two, not both false: where the second is, the first is true
+pub and-false : (p q : Bool) → not p && not q ≡ false → q ≡ false → p ≡ true
 and-false true q e f = refl
 and-false false true e f = sym f
 and-false false false e f = sym e

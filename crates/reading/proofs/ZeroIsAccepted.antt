@@ -23,7 +23,7 @@ use Rattle.alphabet.proofs.Lengths.{fill-whole}
 use Rattle.reading.specs.Options.{anySpare, nopad}
 use Rattle.reading.specs.Cleaning.{refilled, padRun, cleared, clean, Accepted}
 use Rattle.reading.specs.Reader.{Reading, going, fresh, wants, ending, feedAll, finish, readAll}
-use Rattle.reading.proofs.ReaderLaws.{state, Tailed, Stop}
+use Rattle.reading.proofs.ReaderLaws.{and-false, state, Tailed, Stop}
 use Rattle.reading.proofs.Seen.{Seen, progress, start}
 use Rattle.reading.proofs.CleaningLaws.{padsAfter, pads-kept, pads-added, pads-none, refilled-shape, run-shape, cleared-none, cleared-full, cleared-shape}
 
@@ -133,11 +133,6 @@ module _ (a : ℕ) (h : a < 6) (opts : ℕ) where
   by-table ds l =
       let k : InTable a (length ds % group a) = in-table a h (length ds % group a) (mod-lt (length ds) (group-pos a h)) l in
       (wanting-some (group a) (length ds) (group-pos a h) (k .some) ∙ sym (k .pads), omega (arith, last-group a h (length ds), k .few))
-
-  and-false : (x y : Bool) → not x && not y ≡ false → y ≡ false → x ≡ true
-  and-false true y e f = refl
-  and-false false true e f = sym f
-  and-false false false e f = sym e
 
   pub ended : (ds : List ℕ) (p i : ℕ) → (0 < p → Tailed a opts ds p) → ending a opts (state a ds p i) ≡ 0 → Closed a opts ds p
   unfolding ending wants
