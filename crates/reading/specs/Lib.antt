@@ -5,3 +5,5 @@ pub mod Reader
 pub mod Continuation
 pub mod Piece
 pub mod Promises
+pub mod Tidying
+pub mod Known
