@@ -1,8 +1,8 @@
 -- Two lists of digits that part at a digit's first bit give bytes that part in the byte that holds this bit; once for every width. Assumes nothing.
-use Prim.Native.Nat.{ℕ, suc, _+_, _*_, _/_, _%_, _<_, _≤_}
+use Prim.Native.Nat.{ℕ, _*_, _%_, _<_, _≤_}
 use mathlib.Core.Path.{_≡_, refl, sym, ap, _∙_, subst}
 use mathlib.Core.Bool.{Bool, true, false}
-use mathlib.Core.List.{List, [], _∷_, _++_, append-nil}
+use mathlib.Core.List.{List, _∷_, _++_, append-nil}
 use native.Mathlib.Nat.{add-zero}
 use native.Mathlib.Omega.{arith}
 use lib.Dec.{T, ltb}
@@ -11,17 +11,14 @@ use lib.Seq.{getD-append-add}
 use borrow.Author.Tests.{ltb-true, ltb-false}
 use Rattle.alphabet.specs.Bits.{bitsOf, unpack}
 use Rattle.alphabet.specs.Digits.{bytesOf, leftOf}
-use Rattle.alphabet.proofs.BitLaws.{bits-length, unpack-append, unpack-length, pack-length}
+use Rattle.alphabet.proofs.BitLaws.{bits-length, unpack-append, unpack-length}
 use Rattle.alphabet.proofs.DigitLaws.{regrouped}
+use Rattle.alphabet.proofs.Lengths.{bytes-length}
 
 -- digits that fill whole bytes are the bits of these bytes
 full-bits : (b : ℕ) (ds : List ℕ) → b * length ds % 8 ≡ 0 → unpack b ds ≡ unpack 8 (bytesOf b ds)
 unfolding bitsOf
 full-bits b ds e = regrouped b ds .same ∙ ap (λ (n : ℕ). unpack 8 (bytesOf b ds) ++ bitsOf n (leftOf b ds)) e ∙ append-nil (unpack 8 (bytesOf b ds))
-
-pub bytes-length : (b : ℕ) (ds : List ℕ) → length (bytesOf b ds) ≡ b * length ds / 8
-unfolding bytesOf
-bytes-length b ds = pack-length 8 (b * length ds / 8) (unpack b ds)
 
 -- the bit after the digits ds is the first of the digit v
 bit-after : (b : ℕ) → 0 < b → (ds : List ℕ) (v : ℕ) (vs : List ℕ) → b * length (ds ++ v ∷ vs) % 8 ≡ 0

@@ -1,70 +1,41 @@
 -- A refused text has no accepted continuation; a text that is read has one: its pads completed, or its last group filled with digits of one value.
 -- Assumes nothing.
-use Prim.Native.Nat.{ℕ, zero, suc, _+_, _-_, _*_, _%_, _^_, _<_, _≤_}
+use Prim.Native.Nat.{ℕ, zero, suc, _+_, _-_, _%_, _^_, _<_}
 use mathlib.Core.Path.{_≡_, refl, sym, ap, ap₂, _∙_}
-use mathlib.Core.Bool.{Bool, true, false, cond, _&&_, _||_}
+use mathlib.Core.Bool.{Bool, true, false}
 use mathlib.Core.List.{List, [], _∷_, _++_, map, append-assoc, append-nil, map-append}
 use native.Mathlib.Omega.{arith}
-use lib.Dec.{eqb, ltb, leb}
+use lib.Dec.{ltb}
 use lib.ListN.{length, length-append, length-replicate, replicate, replicate-append-replicate}
-use borrow.Author.Tests.{ltb-true, ltb-false, ne-eqb}
+use borrow.Author.Tests.{ltb-true, ltb-false}
 use Rattle.alphabet.specs.Bits.{Below}
 use Rattle.alphabet.specs.Digits.{bytesOf}
 use Rattle.alphabet.specs.Alphabet.{bits, group, tail, digit, pad}
 use Rattle.alphabet.specs.Written.{wanting, written}
 use Rattle.alphabet.proofs.AlphabetLaws.{group-pos}
-use Rattle.alphabet.proofs.DigitLaws.{digits-bytes, bytes-below}
-use Rattle.alphabet.proofs.DigitBytes.{otherCase, digit-high, digit-low, edge, edge-below, edge-own}
+use Rattle.alphabet.proofs.DigitLaws.{bytes-below}
+use Rattle.alphabet.proofs.Edges.{edge, edge-below, edge-own}
+use Rattle.alphabet.proofs.Symbols.{digit-printable, digit-byte}
+use Rattle.alphabet.proofs.Below.{below-append, below-replicate}
+use Rattle.alphabet.proofs.Lengths.{fill-whole}
+use Rattle.alphabet.proofs.Shapes.{shape}
 use Rattle.alphabet.proofs.WrittenLaws.{wanting-none, full-whole}
-use Rattle.reading.specs.Options.{lines, blank, anyCase}
-use Rattle.reading.specs.Cleaning.{kept, turned, clean, Accepted, dropped, upper, lower, refilled, cleared}
+use Rattle.reading.specs.Cleaning.{kept, turned, clean, Accepted, refilled, cleared}
 use Rattle.reading.specs.Continuation.{Continued, Continuation}
 use Rattle.reading.specs.Reader.{Reading, going, fresh, feedAll, finish, readAll}
 use Rattle.reading.proofs.ReaderLaws.{Tailed, Stop}
-use Rattle.reading.proofs.Judging.{plain, Seen, plain-append, turned-pad, feed-append, feed-stopped}
-use Rattle.reading.proofs.Lax.{shape, pads-kept, pads-none}
-use Rattle.reading.proofs.LaxJudging.{closed-tidy, Tidy, by-table, wanting-fills, Closed}
-use Rattle.reading.proofs.LaxComplete.{accepted→accepts}
+use Rattle.reading.proofs.PlainText.{plain, plain-append, turned-pad, kept-high, own-stays}
+use Rattle.reading.proofs.Seen.{Seen, feed-append, feed-stopped}
+use Rattle.reading.proofs.CleaningLaws.{pads-kept, pads-none}
+use Rattle.reading.proofs.ZeroIsAccepted.{closed-tidy, tidy-written, by-table, Closed}
+use Rattle.reading.proofs.AcceptedIsZero.{accepted→accepts}
 
--- ---- bytes that cleaning leaves as they are
-
--- no byte above the blank is dropped
-pub kept-high : (opts c : ℕ) → 32 < c → dropped opts c ≡ false
-unfolding dropped
-kept-high opts c l =
-    rw (ne-eqb c 13 (λ e. omega arith), ne-eqb c 10 (λ e. omega arith), ne-eqb c 32 (λ e. omega arith), ne-eqb c 9 (λ e. omega arith))
-    (go (lines opts) (blank opts))
-  where
-    go : (x y : Bool) → (x && false || y && false) ≡ false
-    go true true = refl
-    go true false = refl
-    go false true = refl
-    go false false = refl
-
--- no byte of the alphabet's own case is turned
-pub own-stays : (a opts c : ℕ) → otherCase a c ≡ false → turned a opts c ≡ c
-unfolding turned upper lower
-own-stays a opts c = go (anyCase opts) (eqb a 5) (leb 65 c && leb c 90) (leb 97 c && leb c 122)
-  where
-    go : (w x y z : Bool) → cond x y z ≡ false → cond w (cond x (cond y (c + 32) c) (cond z (c - 32) c)) c ≡ c
-    go true true y z e = rw e
-    go true false y z e = rw e
-    go false x y z e = refl
+-- ---- lists of one value
 
 plain-one : (a opts c : ℕ) → 32 < c → turned a opts c ≡ c → (n : ℕ) → plain a opts (replicate n c) ≡ replicate n c
 unfolding kept
 plain-one a opts c l e zero = refl
 plain-one a opts c l e (suc n) = rw (kept-high opts c l, e, plain-one a opts c l e n)
-
--- ---- lists of one value
-
-below-append : (m : ℕ) (xs ys : List ℕ) → Below m xs → Below m ys → Below m (xs ++ ys)
-below-append m [] ys k l = l
-below-append m (x ∷ xs) ys k l = (k .0, below-append m xs ys (k .1) l)
-
-below-replicate : (m n v : ℕ) → v < m → Below m (replicate n v)
-below-replicate m zero v k = tt
-below-replicate m (suc n) v k = (k, below-replicate m n v k)
 
 map-replicate : (f : ℕ → ℕ) (n v : ℕ) → map f (replicate n v) ≡ replicate n (f v)
 map-replicate f zero v = refl
@@ -88,10 +59,10 @@ module _ (a : ℕ) (h : a < 6) (opts : ℕ) where
 
   -- the bytes of a text of closed digits and pads are those of its digits
   written-by : (t ds : List ℕ) (p : ℕ) → Below (2 ^ bits a) ds → plain a opts t ≡ shape a ds p → Closed a opts ds p → written a (bytesOf (bits a) ds) ≡ clean a opts t
-  unfolding clean written
+  unfolding clean
   written-by t ds p l e c =
-      let y : Tidy a ds (cleared a opts (refilled a opts (shape a ds p))) = closed-tidy a h opts ds p l c in
-      rw (e, ← y .same, digits-bytes (bits a) (y .digits .values) (y .digits .below) (y .digits .whole)) (y .digits .form)
+      tidy-written a ds (cleared a opts (refilled a opts (shape a ds p))) (closed-tidy a h opts ds p l c)
+      ∙ ap (λ (u : List ℕ). cleared a opts (refilled a opts u)) (sym e)
 
   module _ (t : List ℕ) (r : Reading) (s : Seen a opts t r) where
     -- padding that was begun is completed, and adds no byte
@@ -105,7 +76,7 @@ module _ (a : ℕ) (h : a < 6) (opts : ℕ) where
         let b = by-table a h opts ds n> in
         record {
           more = replicate (n - s .pads) pad;
-          bytes = below-replicate 256 (n - s .pads) pad (omega arith);
+          bytes = below-replicate 256 (n - s .pads) (omega arith);
           source = bytes-below (bits a) ds;
           form =
               written-by (t ++ replicate (n - s .pads) pad) ds n (s .below)
@@ -128,13 +99,13 @@ module _ (a : ℕ) (h : a < 6) (opts : ℕ) where
         let none : wanting (group a) (length es) ≡ 0 = wanting-none (group a) (length es) full in
         record {
           more = replicate k (digit a v);
-          bytes = below-replicate 256 k (digit a v) (omega (arith, digit-low a h v<));
+          bytes = below-replicate 256 k (omega (arith, digit-byte a h v<));
           source = bytes-below (bits a) es;
           form =
-              written-by (t ++ replicate k (digit a v)) es 0 (below-append (2 ^ bits a) ds (replicate k v) (s .below) (below-replicate (2 ^ bits a) k v v<))
+              written-by (t ++ replicate k (digit a v)) es 0 (below-append (2 ^ bits a) ds (replicate k v) (s .below) (below-replicate (2 ^ bits a) k v<))
               (plain-append a opts t (replicate k (digit a v))
               ∙ ap₂ (λ (p q : List ℕ). p ++ q) (s .spelt ∙ ap (λ (j : ℕ). map (digit a) ds ++ replicate j pad) p0 ∙ append-nil (map (digit a) ds))
-              (plain-one a opts (digit a v) (digit-high a h v<) (own-stays a opts (digit a v) (edge-own a h x)) k)
+              (plain-one a opts (digit a v) (digit-printable a h v< .0) (own-stays a opts (digit a v) (edge-own a h x)) k)
               ∙ rw (append-nil, map-append, map-replicate (digit a) k v))
               (record { pads = pads-none a opts es none ∙ sym none; few = full-whole a h es full .few; clear = λ q. full-whole a h es full .clear });
         }
@@ -150,4 +121,4 @@ module _ (a : ℕ) (h : a < 6) (opts : ℕ) where
         go true e = by (pads-on (ltb-true 0 (s .pads) e))
         go false e =
             by
-            (digits-on (omega (arith, ltb-false 0 (s .pads) e)) false (wanting (group a) (length (s .values))) (wanting-fills (group a) (length (s .values)) (group-pos a h)))
+            (digits-on (omega (arith, ltb-false 0 (s .pads) e)) false (wanting (group a) (length (s .values))) (fill-whole (group a) (length (s .values)) (group-pos a h)))

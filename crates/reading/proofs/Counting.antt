@@ -1,27 +1,22 @@
 -- The digits that a text has, counted after dropping and case turning, are those that its reader has seen; so their number gives the number of good
 -- bytes. Assumes nothing.
-use Prim.Native.Nat.{ℕ, zero, suc, _+_, _*_, _/_, _^_, _<_}
+use Prim.Native.Nat.{ℕ, zero, suc, _*_, _/_, _^_, _<_}
 use mathlib.Core.Path.{_≡_, refl, sym, ap, _∙_}
-use mathlib.Core.Bool.{Bool, true, false}
 use mathlib.Core.List.{List, [], _∷_, _++_, map}
 use lib.ListN.{length, replicate}
 use Rattle.alphabet.specs.Bits.{Below}
 use Rattle.alphabet.specs.Digits.{bytesOf}
 use Rattle.alphabet.specs.Alphabet.{bits, digit, isDigit, pad}
-use Rattle.alphabet.proofs.AlphabetLaws.{pad-no-digit}
-use Rattle.alphabet.proofs.Parting.{bytes-length}
+use Rattle.alphabet.proofs.Symbols.{digit-is, pad-is-no-digit}
+use Rattle.alphabet.proofs.Lengths.{bytes-length}
 use Rattle.reading.specs.Promises.{countOf, digitsIn}
 use Rattle.reading.specs.Reader.{Reading}
-use Rattle.reading.proofs.Judging.{Seen, digit-is}
-
-pad-is-none : (a : ℕ) → a < 6 → isDigit a pad ≡ false
-unfolding isDigit
-pad-is-none a h = rw (pad-no-digit a h)
+use Rattle.reading.proofs.Seen.{Seen}
 
 count-pads : (a : ℕ) → a < 6 → (p : ℕ) → countOf (isDigit a) (replicate p pad) ≡ 0
 unfolding countOf
 count-pads a h zero = refl
-count-pads a h (suc p) = rw (pad-is-none a h) (count-pads a h p)
+count-pads a h (suc p) = rw (pad-is-no-digit a h) (count-pads a h p)
 
 count-shape : (a : ℕ) → a < 6 → (ds : List ℕ) (p : ℕ) → Below (2 ^ bits a) ds → countOf (isDigit a) (map (digit a) ds ++ replicate p pad) ≡ length ds
 unfolding countOf

@@ -1,5 +1,6 @@
--- What is known of the limit: it is a multiple of eight, and far below 2^32. The only file that looks at its value. Assumes nothing.
-use Prim.Native.Nat.{ℕ, _%_, _^_, _≤_}
+-- What is known of the limit: it is a multiple of eight, and far below 2^32. The only file, beside the computed
+-- check of the known texts, that looks at its value. Assumes nothing.
+use Prim.Native.Nat.{_%_, _^_, _≤_}
 use mathlib.Core.Path.{_≡_, refl}
 use lib.Dec.{lit≤}
 use Rattle.reading.specs.Limit.{limit}

@@ -2,14 +2,14 @@
 -- refused. Assumes nothing.
 use Prim.Native.Nat.{ℕ, _+_, _%_, _<_, _≤_}
 use mathlib.Core.Path.{_≡_, refl, sym, ap, _∙_, subst}
-use mathlib.Core.Logic.{_⊎_, inl, inr, _↔_}
+use mathlib.Core.Logic.{_⊎_, inl, inr}
 use mathlib.Core.Bool.{Bool, true, false, cond, not, _&&_, _||_}
-use mathlib.Core.List.{List, [], _∷_, _++_, append-assoc, append-nil}
+use mathlib.Core.List.{List, [], append-nil}
 use native.Mathlib.Omega.{arith}
 use lib.Dec.{eqb, leb, ltb}
-use lib.ListN.{length, take, drop, length-take, take-append-drop}
-use lib.Seq.{take-length, take-take, length-take-le}
-use borrow.Author.Tests.{leb-true, leb-false, ltb-true, ltb-false, eqb-true, eqb-false}
+use lib.ListN.{length, take, length-take}
+use lib.Seq.{take-length, take-take}
+use borrow.Author.Tests.{leb-true, leb-false, ltb-true, ltb-false}
 use Rattle.alphabet.specs.Digits.{bytesOf}
 use Rattle.alphabet.specs.Alphabet.{bits, group}
 use Rattle.alphabet.specs.Written.{written}
@@ -17,13 +17,13 @@ use Rattle.alphabet.proofs.DigitLaws.{bytes-below}
 use Rattle.reading.specs.Options.{nopad, anySpare}
 use Rattle.reading.specs.Cleaning.{Accepted}
 use Rattle.reading.specs.Limit.{limit}
-use Rattle.reading.specs.Continuation.{Continued, LongestShared}
-use Rattle.reading.specs.Reader.{State, Reading, going, stopped, fresh, wants, ending, feedAll, finish, readAll, atLimit, judged, Verdict}
-use Rattle.reading.specs.Promises.{Promised, BlamesByte, LostAt, BlamesEnd, Unfinished, Listed}
+use Rattle.reading.specs.Continuation.{Continued}
+use Rattle.reading.specs.Reader.{State, going, fresh, wants, ending, finish, readAll, atLimit, judged, Verdict}
+use Rattle.reading.specs.Promises.{Promised, LostAt, Listed}
 use Rattle.reading.proofs.ReaderLaws.{state, Stop}
-use Rattle.reading.proofs.Judging.{Seen, progress, start}
-use Rattle.reading.proofs.LaxJudging.{accepts→accepted, accepts→written}
-use Rattle.reading.proofs.LaxComplete.{accepted→accepts}
+use Rattle.reading.proofs.Seen.{Seen, progress, start}
+use Rattle.reading.proofs.ZeroIsAccepted.{accepts→accepted, accepts→written}
+use Rattle.reading.proofs.AcceptedIsZero.{accepted→accepts}
 use Rattle.reading.proofs.Positions.{Stopping, stopped-where}
 use Rattle.reading.proofs.Continuations.{read-continued}
 use Rattle.reading.proofs.Fronts.{read, seen-going, seen-take, front-accepted}

@@ -1,7 +1,7 @@
 -- A piece cut in two is read as a whole: the second part goes on where the first ended, into the room that is left. Assumes nothing.
 use Prim.Native.Nat.{ℕ, zero, suc, _+_, _-_, _<_, _≤_}
-use mathlib.Core.Path.{_≡_, refl, sym, ap, ap₂, _∙_}
-use mathlib.Core.Bool.{Bool, true, false, cond}
+use mathlib.Core.Path.{_≡_, refl, sym, ap, _∙_}
+use mathlib.Core.Bool.{Bool, true, false}
 use mathlib.Core.List.{List, [], _∷_, _++_, append-assoc}
 use native.Mathlib.Nat.{zero-add, add-assoc, sub-zero}
 use native.Mathlib.Omega.{arith}
@@ -11,7 +11,7 @@ use lib.Seq.{take-append-add, take-append-le}
 use borrow.Author.Tests.{ltb-true, ltb-false, lt-ltb, le-ltb}
 use Rattle.reading.specs.Limit.{limit}
 use Rattle.reading.specs.Reader.{State, Step, takes, gives, refuses, step}
-use Rattle.reading.specs.Piece.{Why, all, refused, full, Ran, stop, after, onStep, run, whyAtLimit, atLimitRan, runPiece}
+use Rattle.reading.specs.Piece.{Why, all, refused, full, Ran, after, onStep, run, whyAtLimit, atLimitRan, runPiece}
 use Rattle.reading.proofs.PieceLimit.{not-all}
 use Rattle.reading.proofs.PieceLaws.{RunFeeds, run-feeds, all-full, all-refused}
 

@@ -1,6 +1,6 @@
 -- What a run over a piece did is what the reader's rule does: it took and gave what feeding takes and gives, and stopped at the piece's end, at a
 -- refused byte, or at a byte that needs room. Over any state, and any bytes handed out before. Assumes nothing.
-use Prim.Native.Nat.{ℕ, zero, suc, _+_, _-_, _<_, _≤_}
+use Prim.Native.Nat.{ℕ, zero, suc, _+_, _<_, _≤_}
 use mathlib.Core.Path.{_≡_, refl, sym, ap, _∙_}
 use mathlib.Core.List.{List, [], _∷_, _++_, append-assoc, append-nil}
 use native.Mathlib.Nat.{add-zero}
@@ -9,9 +9,9 @@ use native.Mathlib.Omega.{arith}
 use lib.ListN.{length, take, drop, getD, length-append}
 use lib.Seq.{take-length, split-at}
 use Rattle.reading.specs.Continuation.{Begins}
-use Rattle.reading.specs.Reader.{State, Step, takes, gives, refuses, Reading, going, stopped, step, follow, feed, feedAll}
+use Rattle.reading.specs.Reader.{State, Step, gives, refuses, Reading, going, stopped, step, follow, feed, feedAll}
 use Rattle.reading.specs.Piece.{Why, all, refused, full, Ran, stop, after, onStep, run}
-use Rattle.reading.proofs.Judging.{feed-append, feed-stopped}
+use Rattle.reading.proofs.Seen.{feed-append, feed-stopped}
 use Rattle.reading.proofs.Positions.{Moves, took, gave, blamed, step-moves, given}
 use Rattle.reading.proofs.Shared.{reading-adds}
 

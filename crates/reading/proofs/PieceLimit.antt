@@ -3,14 +3,14 @@
 use Prim.Native.Nat.{ℕ, _+_, _-_, _<_, _≤_}
 use mathlib.Core.Path.{_≡_, refl, sym, ap, _∙_, subst}
 use mathlib.Core.Bool.{Bool, true, false, cond}
-use mathlib.Core.List.{List, [], _∷_, _++_}
+use mathlib.Core.List.{List, _++_}
 use native.Mathlib.Omega.{arith}
 use lib.Dec.{ltb}
 use lib.ListN.{length, take, getD}
 use lib.Seq.{take-take, getD-take, length-take-le}
 use borrow.Author.Tests.{ltb-true, ltb-false}
 use Rattle.reading.specs.Limit.{limit}
-use Rattle.reading.specs.Reader.{State, refuses, Reading, going, step, feedAll}
+use Rattle.reading.specs.Reader.{State, refuses, going, step, feedAll}
 use Rattle.reading.specs.Piece.{Why, all, refused, full, Ran, run, whyAtLimit, atLimitRan, runPiece}
 use Rattle.reading.proofs.Positions.{refuses-range}
 use Rattle.reading.proofs.PieceLaws.{NeedsRoom, RunFeeds, run-feeds, all-full, all-refused, full-refused, refused-same}

@@ -1,19 +1,18 @@
 -- Where a reader stands: a byte that is taken moves it on by one, and a reader that stopped had read all before the byte that it refused, by an
 -- answer from 4 to 7. Assumes nothing.
-use Prim.Native.Nat.{ℕ, zero, suc, _+_, _<_, _≤_}
+use Prim.Native.Nat.{ℕ, suc, _+_, _<_, _≤_}
 use mathlib.Core.Path.{_≡_, refl, sym, ap, _∙_}
-use mathlib.Core.Logic.{_⊎_, inl, inr}
 use mathlib.Core.Bool.{Bool, true, false, cond, not, _&&_}
-use mathlib.Core.List.{List, [], _∷_, _++_, append-assoc, append-nil}
+use mathlib.Core.List.{List, [], _∷_, _++_}
 use native.Mathlib.Nat.{suc-add}
 use native.Mathlib.Omega.{arith}
 use lib.Dec.{eqb, ltb}
-use lib.ListN.{length, take, getD}
+use lib.ListN.{length, take}
 use Rattle.alphabet.specs.Alphabet.{bits, value, isDigit, isPad}
-use Rattle.reading.specs.Options.{nopad, anySpare}
+use Rattle.reading.specs.Options.{anySpare}
 use Rattle.reading.specs.Cleaning.{dropped, turned}
-use Rattle.reading.specs.Continuation.{Begins}
-use Rattle.reading.specs.Reader.{State, Step, takes, gives, refuses, Reading, going, stopped, wants, heldBits, passes, onDigit, onPad, step, ending, follow, feed, feedAll}
+use Rattle.reading.specs.Reader.{State, Step, takes, gives, refuses, Reading, going, stopped, wants, heldBits, passes, onDigit, onPad, step, follow, feed, feedAll}
+use Rattle.reading.proofs.Seen.{feed-stopped}
 
 -- ---- one byte
 
@@ -73,11 +72,6 @@ pub record Stopping (a opts : ℕ) (s : State) (out t : List ℕ) (k i : ℕ) (e
   pub before : feedAll a opts (going s out) (take n t) ≡ going at end
   pub through : feedAll a opts (going s out) (take (n + 1) t) ≡ stopped k i end
 
-stays : (a opts k i : ℕ) (out t : List ℕ) → feedAll a opts (stopped k i out) t ≡ stopped k i out
-unfolding feedAll feed
-stays a opts k i out [] = refl
-stays a opts k i out (c ∷ t) = stays a opts k i out t
-
 later : (a opts : ℕ) (s n : State) (out out′ : List ℕ) (c : ℕ) (t : List ℕ) (k i : ℕ) (end : List ℕ) → feed a opts (going s out) c ≡ going n out′
     → n .taken ≡ s .taken + 1 → Stopping a opts n out′ t k i end → Stopping a opts s out (c ∷ t) k i end
 unfolding feedAll
@@ -107,7 +101,7 @@ stopped-where a opts s out (c ∷ t) k i end e = go (step-moves a opts s c) refl
     go (gave {x} {n} m) f rec =
         later a opts s n out (out ++ x ∷ []) c t k i end (ap (follow s out) f) m (rec n (out ++ x ∷ []) (rw f at e))
     go (blamed {k = j} l m) f rec =
-        let w : feedAll a opts (going s out) (c ∷ t) ≡ stopped j (s .taken) out = rw f (stays a opts j (s .taken) out t) in
+        let w : feedAll a opts (going s out) (c ∷ t) ≡ stopped j (s .taken) out = rw f (feed-stopped a opts j (s .taken) out t) in
         let z : stopped k i end ≡ stopped j (s .taken) out = sym e ∙ w in
         let kj : k ≡ j = cc in
         let ij : i ≡ s .taken = cc in
@@ -122,3 +116,19 @@ stopped-where a opts s out (c ∷ t) k i end e = go (step-moves a opts s c) refl
           before = rw oe;
           through = rw (f, kj, ij, oe);
         }
+
+-- ---- a reader that goes on has taken all
+
+pub going-taken : (a opts : ℕ) (s n : State) (out end t : List ℕ) → feedAll a opts (going s out) t ≡ going n end → n .taken ≡ s .taken + length t
+unfolding feedAll feed follow
+going-taken a opts s n out end [] e = let z : n ≡ s = cc in ap (λ (m : State). m .taken) z ∙ omega arith
+going-taken a opts s n out end (c ∷ t) e = go (step-moves a opts s c) refl (λ m o. going-taken a opts m n o end t)
+  where
+    go : {x : Step} → Moves s x → step a opts s c ≡ x → ((m : State) (o : List ℕ) → feedAll a opts (going m o) t ≡ going n end → n .taken ≡ m .taken + length t)
+        → n .taken ≡ s .taken + suc (length t)
+    go (took {n = m} l) f rec = omega (arith, rec m out (rw f at e))
+    go (gave {x} {n = m} l) f rec = omega (arith, rec m (out ++ x ∷ []) (rw f at e))
+    go (blamed {k = j} l h) f rec =
+        let w : feedAll a opts (going s out) (c ∷ t) ≡ stopped j (s .taken) out = rw f (feed-stopped a opts j (s .taken) out t) in
+        let y : going n end ≡ stopped j (s .taken) out = sym e ∙ w in
+        absurd (let z : _≡_ {A = ℕ} 0 1 = cc in omega arith)

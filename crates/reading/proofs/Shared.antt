@@ -13,17 +13,17 @@ use borrow.Author.Tests.{ltb-true, ltb-false}
 use Rattle.alphabet.specs.Digits.{bytesOf}
 use Rattle.alphabet.specs.Alphabet.{bits, group}
 use Rattle.alphabet.proofs.AlphabetLaws.{bits-low, group-pos}
-use Rattle.alphabet.proofs.DigitBytes.{edge, edge-first}
+use Rattle.alphabet.proofs.Edges.{edge, edge-first}
 use Rattle.alphabet.proofs.Parting.{shared-short}
 use Rattle.alphabet.proofs.WrittenLaws.{last-group}
+use Rattle.alphabet.proofs.Shapes.{written-once}
 use Rattle.reading.specs.Continuation.{Continuation, Begins, Shared, LongestShared}
-use Rattle.reading.specs.Reader.{State, Step, takes, gives, refuses, Reading, going, stopped, fresh, step, follow, feed, feedAll, finish, readAll}
-use Rattle.reading.proofs.Judging.{Seen, feed-append}
-use Rattle.reading.proofs.LaxJudging.{accepts→written, good-below}
-use Rattle.reading.proofs.LaxComplete.{accepted→accepts}
+use Rattle.reading.specs.Reader.{Step, takes, gives, refuses, Reading, going, stopped, fresh, step, follow, feed, feedAll, finish, readAll}
+use Rattle.reading.proofs.Seen.{Seen, feed-append}
+use Rattle.reading.proofs.ZeroIsAccepted.{accepts→written, good-below}
+use Rattle.reading.proofs.AcceptedIsZero.{accepted→accepts}
 use Rattle.reading.proofs.Positions.{given}
 use Rattle.reading.proofs.Continuations.{pads-on, digits-on}
-use Rattle.reading.proofs.Final.{written-once}
 
 -- ---- reading on only adds bytes
 
@@ -51,7 +51,7 @@ unfolding feedAll
 reading-adds a opts r [] = begins-all (given r)
 reading-adds a opts r (c ∷ t) = begins-trans (feed-adds a opts r c) (reading-adds a opts (feed a opts r c) t)
 
-good-given : (a opts : ℕ) (r : Reading) → finish a opts r .good ≡ given r
+pub good-given : (a opts : ℕ) (r : Reading) → finish a opts r .good ≡ given r
 unfolding finish
 good-given a opts (going s out) = refl
 good-given a opts (stopped k i out) = refl

@@ -11,14 +11,12 @@ use Rattle.alphabet.specs.Table.{symbolOf}
 use Rattle.alphabet.specs.declared.table.Symbol.{Symbol}
 use Rattle.alphabet.specs.declared.table.Symbol.the-variants.{Digit, Pad, Neither}
 use Rattle.alphabet.proofs.Symbols.{IsDigit, is-digit, is-pad, digit-printable}
-use Rattle.alphabet.proofs.DigitBytes.{digit-own}
+use Rattle.alphabet.proofs.Edges.{digit-own}
 use Rattle.alphabet.proofs.TableLaws.{symbol-digit, symbol-pad, symbol-neither}
 use Rattle.reading.specs.Options.{chosen, lines, blank, anyCase, allowed}
 use Rattle.reading.specs.Cleaning.{dropped, turned, upper, lower}
 use Rattle.reading.specs.Reader.{State, Step, takes, gives, refuses, passes, onDigit, onPad, step}
-use Rattle.reading.proofs.Judging.{turned-pad}
-use Rattle.reading.proofs.LaxComplete.{turned-back}
-use Rattle.reading.proofs.Continuations.{kept-high, own-stays}
+use Rattle.reading.proofs.PlainText.{kept-high, own-stays, turned-pad, turned-back}
 
 module _ (a opts : ℕ) (s : State) (c : ℕ) where
   pub step-dropped : dropped opts c ≡ true → step a opts s c ≡ takes (passes s)

@@ -11,11 +11,12 @@ use lib.Pow.{pow-add, pow-pos, shr-lt}
 use borrow.Author.Tests.{ltb-true, ltb-false}
 use Rattle.alphabet.specs.Alphabet.{bits, value, isDigit, isPad}
 use Rattle.alphabet.proofs.AlphabetLaws.{bits-high}
+use Rattle.alphabet.proofs.Symbols.{is-digit}
 use Rattle.reading.specs.Options.{anySpare}
 use Rattle.reading.specs.Cleaning.{dropped, turned}
 use Rattle.reading.specs.Reader.{State, Step, takes, gives, refuses, fresh, wants, heldBits, passes, onDigit, onPad, step}
 use Rattle.reading.specs.Sound.{Sound}
-use Rattle.reading.proofs.Judging.{is-digit}
+
 
 pub fresh-sound : (a : ℕ) → Sound a fresh
 unfolding heldBits
@@ -85,5 +86,5 @@ module _ (a : ℕ) (h : a < 6) (s : State) (f : Sound a s) where
   keeps opts c =
       either (Keeps a s) (dropped opts c)
       (λ e. record { sound = record { held = f .held; digits = omega (arith, f .digits); pads = omega (arith, f .pads) }; one = refl })
-      (λ e. either (Keeps a s) (isDigit a (turned a opts c)) (λ d. keeps-digit (is-digit a h (turned a opts c) d .0))
+      (λ e. either (Keeps a s) (isDigit a (turned a opts c)) (λ d. keeps-digit (is-digit a h (turned a opts c) d .small))
       (λ d. either (Keeps a s) (isPad a c) (λ p. keeps-pad opts) (λ p. tt)))

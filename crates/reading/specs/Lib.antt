@@ -5,4 +5,6 @@ pub mod Reader
 pub mod Continuation
 pub mod Piece
 pub mod Promises
+pub mod Tidying
+pub mod Known
 pub mod Sound

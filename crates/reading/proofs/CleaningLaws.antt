@@ -1,33 +1,21 @@
--- The cleaning of a text of digits and pads. Assumes nothing.
-use Prim.Native.Nat.{ℕ, zero, suc, _+_, _-_, _*_, _/_, _%_, _^_, _<_, _≤_}
-use mathlib.Core.Path.{_≡_, refl, sym, ap, ap₂, _∙_, subst}
-use mathlib.Core.Logic.{_⊎_, inl, inr, _≢_, _↔_}
-use mathlib.Core.Bool.{Bool, true, false, cond, not, _&&_, _||_}
-use mathlib.Core.List.{List, [], _∷_, _++_, map, append-assoc, append-nil, map-append}
-use native.Mathlib.Nat.{add-zero, add-assoc, mod-lt, mul-suc, mul-mod-left}
+-- Steps 3 and 4 of cleaning, on a text of digits and pads: which pads are added, and which digit's spare bits are cleared. Assumes nothing.
+use Prim.Native.Nat.{ℕ, zero, suc, _+_, _-_, _*_, _/_, _%_, _^_, _<_}
+use mathlib.Core.Path.{_≡_, refl, sym, ap, _∙_}
+use mathlib.Core.Bool.{Bool, true, false, cond, not, _&&_}
+use mathlib.Core.List.{List, [], _∷_, _++_, map, append-nil}
 use native.Mathlib.Omega.{arith}
-use lib.Dec.{T, eqb, ltb, eqb→eq}
-use lib.ListN.{length, getD, set, length-append, length-map, length-replicate, replicate, replicate-append-replicate}
+use lib.Dec.{eqb, ltb}
+use lib.ListN.{length, getD, set, length-append, length-map, length-replicate, replicate}
 use lib.Seq.{set-at, getD-at}
-use borrow.Author.Tests.{ltb-true, ltb-false, lt-ltb, le-ltb, eqb-true, eqb-false, eq-eqb, ne-eqb}
-use Rattle.alphabet.specs.Bits.{Below, bitsOf, unpack, pack}
-use Rattle.alphabet.proofs.BitLaws.{Regrouped, bits-split, bits-mod, bits-length, unpack-append, unpack-length, unpack-pack, pack-below}
-use Rattle.alphabet.proofs.DigitLaws.{regrouped-left, regrouped-bytes}
-use Rattle.reading.proofs.Judging.{digit-is}
-use lib.Pow.{pow-pos, shl-shr}
-use Rattle.alphabet.specs.Digits.{bytesOf, leftOf, Whole}
-use Rattle.alphabet.specs.Alphabet.{bits, group, tail, spare, value, digit, isDigit, padded, isPad, pad}
-use Rattle.alphabet.proofs.AlphabetLaws.{bits-low, bits-high, group-pos, value-digit, value-small, digit-value, pad-no-digit, tail-padded}
-use Rattle.alphabet.specs.Written.{wanting, spelled, Canonical}
+use borrow.Author.Tests.{lt-ltb, eqb-true, eq-eqb, ne-eqb}
+use Rattle.alphabet.specs.Bits.{Below}
+use Rattle.alphabet.specs.Alphabet.{bits, group, spare, digit, isDigit, padded, pad}
+use Rattle.alphabet.specs.Written.{wanting}
+use Rattle.alphabet.proofs.AlphabetLaws.{value-digit}
+use Rattle.alphabet.proofs.Shapes.{shape, shape-last, digit-is, digit-no-pad}
+use Rattle.alphabet.proofs.SpareBits.{clearLow}
 use Rattle.reading.specs.Options.{anySpare, nopad}
 use Rattle.reading.specs.Cleaning.{has, refilled, padRun, clearedDigit, cleared}
-
--- digits of the values ds, and p pads
-abbrev pub shape : ℕ → List ℕ → ℕ → List ℕ
-shape a ds p = map (digit a) ds ++ replicate p pad
-
-pub digit-no-pad : (a : ℕ) → a < 6 → {v : ℕ} → v < 2 ^ bits a → digit a v ≡ pad → ⊥
-digit-no-pad a h {v} l e = omega (arith, value-small a h l, sym (value-digit a h l) ∙ ap (value a) e ∙ pad-no-digit a h)
 
 -- ---- step 3
 
@@ -99,10 +87,6 @@ run-shape p c (x ∷ xs) n =
     go true = refl
     go false = refl
 
--- the last value with its s low bits zero
-abbrev pub clearLow : ℕ → ℕ → ℕ
-clearLow s v = v / 2 ^ s * 2 ^ s
-
 pub cleared-none : (a opts : ℕ) (t : List ℕ) → anySpare opts ≡ false → cleared a opts t ≡ t
 unfolding cleared
 cleared-none a opts t e = rw e
@@ -129,9 +113,6 @@ cleared-at a opts xs c p n d e m z =
     (run-shape p c xs n, k, getD-at xs c (replicate p pad) 0 (length xs) refl, e, eq-eqb (length (xs ++ c ∷ replicate p pad) % group a) 0 m, lt-ltb 0 (spare a p) z, lt-ltb p (length (xs ++ c ∷ replicate p pad)) (omega (arith, last-place xs c p)), d)
     (set-at xs c (replicate p pad) (clearedDigit a (spare a p) c) (length xs) refl)
 
-pub shape-last : (a : ℕ) (ds : List ℕ) (v p : ℕ) → shape a (ds ++ v ∷ []) p ≡ map (digit a) ds ++ digit a v ∷ replicate p pad
-shape-last a ds v p = rw (map-append, append-assoc)
-
 pub cleared-shape : (a : ℕ) → a < 6 → (opts : ℕ) (ds : List ℕ) (v p : ℕ) → v < 2 ^ bits a → anySpare opts ≡ true
     → length (shape a (ds ++ v ∷ []) p) % group a ≡ 0 → 0 < spare a p → cleared a opts (shape a (ds ++ v ∷ []) p) ≡ shape a (ds ++ clearLow (spare a p) v ∷ []) p
 unfolding clearedDigit
@@ -140,38 +121,3 @@ cleared-shape a h opts ds v p k e m z =
     ∙ cleared-at a opts (map (digit a) ds) (digit a v) p (digit-no-pad a h k) (digit-is a h k) e (rw shape-last at m) z
     ∙ ap (λ (x : ℕ). map (digit a) ds ++ digit a (x / 2 ^ spare a p * 2 ^ spare a p) ∷ replicate p pad) (value-digit a h k)
     ∙ sym (shape-last a ds (clearLow (spare a p) v) p)
-
--- ---- the bits: a last digit whose spare bits are cleared leaves the whole bytes as they are, and zero bits
-
-module _ (b : ℕ) (ds : List ℕ) (v s n : ℕ) (few : s < b) (small : s < 8) (size : b * suc (length ds) ≡ 8 * n + s) where
-  front : List Bool
-  front = unpack b ds ++ bitsOf (b - s) (v / 2 ^ s)
-
-  front-length : length front ≡ 8 * n
-  unfolding front
-  front-length = simp (length-append, unpack-length, bits-length) (omega (arith, mul-suc b (length ds)))
-
-  unpack-last : (w : ℕ) → w / 2 ^ s ≡ v / 2 ^ s → unpack b (ds ++ w ∷ []) ≡ front ++ bitsOf s w
-  unfolding unpack front
-  unpack-last w e =
-      let k : b - s + s ≡ b = omega arith in
-      unpack-append b ds (w ∷ []) ∙ ap (λ (x : List Bool). unpack b ds ++ x) (append-nil (bitsOf b w) ∙ ap (λ (x : ℕ). bitsOf x w) (sym k) ∙ bits-split (b - s) s w ∙ ap (λ (x : ℕ). bitsOf (b - s) x ++ bitsOf s w) e) ∙ sym (append-assoc (unpack b ds) (bitsOf (b - s) (v / 2 ^ s)) (bitsOf s w))
-
-  regrouped-last : (w : ℕ) → w / 2 ^ s ≡ v / 2 ^ s → Regrouped b (ds ++ w ∷ []) (pack 8 n front) s (w % 2 ^ s)
-  regrouped-last w e =
-      record {
-        few = small;
-        small = mod-lt w (pow-pos s);
-        bytes = pack-below 8 n front;
-        same = unpack-last w e ∙ rw (unpack-pack 8 n front front-length, bits-mod s w);
-      }
-
-  pub cleared-left : leftOf b (ds ++ clearLow s v ∷ []) ≡ 0
-  cleared-left =
-      sym (regrouped-left b (ds ++ clearLow s v ∷ []) _ s _ (regrouped-last (clearLow s v) (shl-shr (v / 2 ^ s) s)))
-      ∙ mul-mod-left (v / 2 ^ s) (2 ^ s)
-
-  pub cleared-bytes : bytesOf b (ds ++ clearLow s v ∷ []) ≡ bytesOf b (ds ++ v ∷ [])
-  cleared-bytes =
-      sym (regrouped-bytes b (ds ++ clearLow s v ∷ []) _ s _ (regrouped-last (clearLow s v) (shl-shr (v / 2 ^ s) s)))
-      ∙ regrouped-bytes b (ds ++ v ∷ []) _ s _ (regrouped-last v refl)

@@ -1,35 +1,31 @@
--- The reader's answer is 0 exactly on accepted texts, under every sum of options. Assumes nothing.
-use Prim.Native.Nat.{ℕ, zero, suc, _+_, _-_, _*_, _/_, _%_, _^_, _<_, _≤_}
-use mathlib.Core.Path.{_≡_, refl, sym, ap, ap₂, _∙_, subst}
-use mathlib.Core.Logic.{_⊎_, inl, inr, _≢_, _↔_}
+-- Where the reader answers 0, the text is accepted, and its cleaned text is the written form of the good bytes. Assumes nothing.
+use Prim.Native.Nat.{ℕ, suc, _+_, _-_, _*_, _/_, _%_, _^_, _<_}
+use mathlib.Core.Path.{_≡_, refl, sym, ap, _∙_}
+use mathlib.Core.Logic.{_⊎_, inl, inr}
 use mathlib.Core.Bool.{Bool, true, false, cond, not, _&&_, _||_}
-use mathlib.Core.List.{List, [], _∷_, _++_, map, append-assoc, append-nil, map-append}
-use native.Mathlib.Nat.{add-zero, add-assoc, mod-lt, mul-suc, suc-mul, mul-mod-left, div-add-mod'}
+use mathlib.Core.List.{List, [], _∷_, _++_, map}
+use native.Mathlib.Nat.{mod-lt, zero-mod, div-mul-le-self, lt-of-le-of-lt}
 use native.Mathlib.Omega.{arith}
-use lib.Dec.{T, eqb, ltb, eqb→eq}
-use lib.ListN.{length, getD, set, length-append, length-map, length-replicate, replicate, replicate-append-replicate}
-use lib.Seq.{set-at, getD-at}
-use borrow.Author.Tests.{ltb-true, ltb-false, lt-ltb, le-ltb, eqb-true, eqb-false, eq-eqb, ne-eqb}
-use Rattle.alphabet.specs.Bits.{Below, bitsOf, unpack, pack}
-use Rattle.alphabet.proofs.BitLaws.{Regrouped, bits-split, bits-mod, bits-length, unpack-append, unpack-length, unpack-pack, pack-below}
-use Rattle.alphabet.proofs.DigitLaws.{regrouped-left, regrouped-bytes, digits-bytes, bytes-below}
-use Rattle.reading.proofs.Judging.{digit-is}
-use lib.Pow.{pow-pos, shl-shr}
-use Rattle.alphabet.specs.Digits.{bytesOf, leftOf, Whole}
-use Rattle.alphabet.specs.Alphabet.{bits, group, tail, spare, value, digit, isDigit, padded, isPad, pad}
-use Rattle.alphabet.proofs.AlphabetLaws.{bits-low, bits-high, group-pos, value-digit, value-small, digit-value, pad-no-digit, tail-padded}
-use Rattle.alphabet.specs.Written.{wanting, spelled, written, Canonical}
+use lib.Dec.{eqb, ltb}
+use lib.ListN.{length, length-append, length-map, length-replicate}
+use borrow.Author.Tests.{ltb-true, ltb-false, eqb-true, eqb-false}
+use Rattle.alphabet.specs.Digits.{digitsOf, bytesOf, leftOf}
+use Rattle.alphabet.specs.Written.{spelled, wanting, written}
+use Rattle.alphabet.specs.Bits.{Below}
+use Rattle.alphabet.specs.Alphabet.{bits, group, tail, spare, digit}
+use Rattle.alphabet.proofs.Shapes.{spelled-is, written-spelled, shape, shape-last, digit-no-pad}
+use Rattle.alphabet.proofs.SpareBits.{clearLow, cleared-left, cleared-bytes}
+use Rattle.alphabet.proofs.DigitLaws.{digits-bytes, bytes-below}
+use Rattle.alphabet.proofs.AlphabetLaws.{group-pos, tail-padded, spare-none, spare-tail}
+use Rattle.alphabet.proofs.Below.{below-snoc}
+use Rattle.alphabet.proofs.WrittenLaws.{ByDigits, wanting-none, wanting-some, last-group, InTable, in-table, table-in, full-whole}
+use Rattle.alphabet.proofs.Lengths.{fill-whole}
 use Rattle.reading.specs.Options.{anySpare, nopad}
-use Rattle.reading.specs.Cleaning.{has, refilled, padRun, clearedDigit, cleared}
-use native.Mathlib.Nat.{zero-mod, div-mul-le-self, lt-of-le-of-lt, mul-comm, div-add-mod}
-use Rattle.alphabet.proofs.BitLaws.{below-snoc}
-use Rattle.alphabet.proofs.AlphabetLaws.{spare-none, spare-tail}
-use Rattle.alphabet.proofs.WrittenLaws.{ByDigits, canonical→digits, digits→canonical, wanting-none, wanting-some, last-group, InTable, in-table, table-in, whole-tail, full-whole}
-use Rattle.reading.specs.Cleaning.{kept, turned, clean, Accepted}
-use Rattle.reading.specs.Reader.{State, Reading, going, stopped, fresh, wants, ending, feed, feedAll, finish, readAll, Verdict}
-use Rattle.reading.proofs.ReaderLaws.{state, seen, Tailed, Stop}
-use Rattle.reading.proofs.Judging.{plain, Seen, progress, start}
-use Rattle.reading.proofs.Lax.{shape, shape-last, digit-no-pad, padsAfter, pads-kept, pads-added, pads-none, refilled-shape, run-shape, clearLow, cleared-none, cleared-full, cleared-shape, cleared-left, cleared-bytes}
+use Rattle.reading.specs.Cleaning.{refilled, padRun, cleared, clean, Accepted}
+use Rattle.reading.specs.Reader.{Reading, going, fresh, wants, ending, feedAll, finish, readAll}
+use Rattle.reading.proofs.ReaderLaws.{and-false, state, Tailed, Stop}
+use Rattle.reading.proofs.Seen.{Seen, progress, start}
+use Rattle.reading.proofs.CleaningLaws.{padsAfter, pads-kept, pads-added, pads-none, refilled-shape, run-shape, cleared-none, cleared-full, cleared-shape}
 
 -- digits and pads that make an accepted text
 pub record Closed (a opts : ℕ) (ds : List ℕ) (p : ℕ) : Type 0 where
@@ -44,6 +40,15 @@ pub record Tidy (a : ℕ) (ds t : List ℕ) : Type 0 where
   pub digits : ByDigits a t
   pub same : bytesOf (bits a) (digits .values) ≡ bytesOf (bits a) ds
 
+-- such a text is the written form of these bytes
+pub tidy-written : (a : ℕ) (ds t : List ℕ) → Tidy a ds t → written a (bytesOf (bits a) ds) ≡ t
+tidy-written a ds t y =
+    written-spelled a (bytesOf (bits a) ds)
+    ∙ ap (λ (bytes : List ℕ). spelled a (digitsOf (bits a) bytes)) (sym (y .same))
+    ∙ ap (spelled a) (digits-bytes (bits a) (y .digits .values) (y .digits .below) (y .digits .whole))
+    ∙ y .digits .form
+
+-- a list is empty, or has a last element
 pub data Snoc : List ℕ → Type 0 where
   none : Snoc []
   some : (ds : List ℕ) (v : ℕ) → Snoc (ds ++ v ∷ [])
@@ -60,16 +65,6 @@ pub below-last : (m : ℕ) (ds : List ℕ) {v : ℕ} → Below m (ds ++ v ∷ []
 below-last m [] l = (tt, l .0)
 below-last m (x ∷ ds) l = let r = below-last m ds (l .1) in ((l .0, r .0), r .1)
 
-pub wanting-fills : (g n : ℕ) → 0 < g → (n + wanting g n) % g ≡ 0
-wanting-fills g n h = go (eqb (n % g) 0) refl
-  where
-    go : (x : Bool) → eqb (n % g) 0 ≡ x → (n + wanting g n) % g ≡ 0
-    go true e = rw (wanting-none g n (eqb-true (n % g) 0 e), add-zero) (eqb-true (n % g) 0 e)
-    go false e =
-        let l : 0 < n % g = omega (arith, eqb-false (n % g) 0 e) in
-        let k : n + (g - n % g) ≡ suc (n / g) * g = omega (arith, div-add-mod' n g, mod-lt n h, suc-mul (n / g) g) in
-        rw (wanting-some g n h l, k) (mul-mod-left (suc (n / g)) g)
-
 run-none : (a : ℕ) → a < 6 → (ds : List ℕ) → Below (2 ^ bits a) ds → padRun (shape a ds 0) ≡ 0
 unfolding padRun
 run-none a h ds l = go (snoc ds) l
@@ -82,7 +77,6 @@ module _ (a : ℕ) (h : a < 6) (opts : ℕ) where
   -- the last digit's spare bits are cleared
   spelled-last : (ds : List ℕ) (v : ℕ) → Below (2 ^ bits a) (ds ++ v ∷ []) → bits a * length (ds ++ v ∷ []) % 8 < bits a → 0 < length (ds ++ v ∷ []) % group a
       → anySpare opts ≡ true → Tidy a (ds ++ v ∷ []) (cleared a opts (shape a (ds ++ v ∷ []) (wanting (group a) (length (ds ++ v ∷ [])))))
-  unfolding spelled
   spelled-last ds v l f k e =
       let n : ℕ = length (ds ++ v ∷ []) in
       let w : ℕ = wanting (group a) n in
@@ -92,7 +86,7 @@ module _ (a : ℕ) (h : a < 6) (opts : ℕ) where
       let st : (spare a (tail a (n % group a)) ≡ bits a * (n % group a) % 8) × (0 < bits a * (n % group a) % 8) = spare-tail a h lt (omega arith) in
       let sw : spare a w ≡ bits a * n % 8 = ap (spare a) (sym tw) ∙ st .0 ∙ sym (last-group a h n) in
       let v< : v < 2 ^ bits a = below-last (2 ^ bits a) ds l .1 in
-      let full : length (shape a (ds ++ v ∷ []) w) % group a ≡ 0 = simp (length-append (map (digit a) (ds ++ v ∷ [])), length-map, length-replicate) (wanting-fills (group a) n (group-pos a h)) in
+      let full : length (shape a (ds ++ v ∷ []) w) % group a ≡ 0 = simp (length-append (map (digit a) (ds ++ v ∷ [])), length-map, length-replicate) (fill-whole (group a) n (group-pos a h)) in
       let c : ℕ = clearLow (spare a w) v in
       let same : length (ds ++ c ∷ []) ≡ n = length-append ds (c ∷ []) ∙ sym (length-append ds (v ∷ [])) in
       let longer : suc (length ds) ≡ n = omega (arith, length-append ds (v ∷ [])) in
@@ -104,7 +98,7 @@ module _ (a : ℕ) (h : a < 6) (opts : ℕ) where
               values = ds ++ c ∷ [];
               below = below-snoc (2 ^ bits a) ds (below-last (2 ^ bits a) ds l .0) (lt-of-le-of-lt (div-mul-le-self v (2 ^ spare a w)) v<);
               whole = record { few = rw same f; clear = cleared-left (bits a) ds v (spare a w) (bits a * n / 8) (omega (arith, sw)) (omega (arith, sw)) size };
-              form = rw same;
+              form = spelled-is a (ds ++ c ∷ []) ∙ ap (λ (m : ℕ). shape a (ds ++ c ∷ []) (wanting (group a) m)) same;
             };
         same = cleared-bytes (bits a) ds v (spare a w) (bits a * n / 8) (omega (arith, sw)) (omega (arith, sw)) size;
       })
@@ -118,20 +112,19 @@ module _ (a : ℕ) (h : a < 6) (opts : ℕ) where
       go (some fs v) l f k = spelled-last fs v l f k e
 
   pub closed-tidy : (ds : List ℕ) (p : ℕ) → Below (2 ^ bits a) ds → Closed a opts ds p → Tidy a ds (cleared a opts (refilled a opts (shape a ds p)))
-  unfolding spelled
   closed-tidy ds p l c =
       rw (refilled-shape a h opts ds p l, c .pads) (go (anySpare opts) refl (eqb (length ds % group a) 0) refl)
     where
       go : (x : Bool) → anySpare opts ≡ x → (y : Bool) → eqb (length ds % group a) 0 ≡ y → Tidy a ds (cleared a opts (shape a ds (wanting (group a) (length ds))))
       go false e y f =
           rw (cleared-none a opts (shape a ds (wanting (group a) (length ds))) e)
-          (record { digits = record { values = ds; below = l; whole = record { few = c .few; clear = c .clear e }; form = refl }; same = refl })
+          (record { digits = record { values = ds; below = l; whole = record { few = c .few; clear = c .clear e }; form = spelled-is a ds }; same = refl })
       go true e true f =
           let z : length ds % group a ≡ 0 = eqb-true (length ds % group a) 0 f in
           let w : wanting (group a) (length ds) ≡ 0 = wanting-none (group a) (length ds) z in
           let s : spare a (padRun (shape a ds (wanting (group a) (length ds)))) ≡ 0 = rw (w, run-none a h ds l) (spare-none a h) in
           rw (cleared-full a opts (shape a ds (wanting (group a) (length ds))) s)
-          (record { digits = record { values = ds; below = l; whole = full-whole a h ds z; form = refl }; same = refl })
+          (record { digits = record { values = ds; below = l; whole = full-whole a h ds z; form = spelled-is a ds }; same = refl })
       go true e false f = spelled-clear ds l (c .few) (omega (arith, eqb-false (length ds % group a) 0 f)) e
 
   -- ---- what the reader's end says
@@ -141,12 +134,7 @@ module _ (a : ℕ) (h : a < 6) (opts : ℕ) where
       let k : InTable a (length ds % group a) = in-table a h (length ds % group a) (mod-lt (length ds) (group-pos a h)) l in
       (wanting-some (group a) (length ds) (group-pos a h) (k .some) ∙ sym (k .pads), omega (arith, last-group a h (length ds), k .few))
 
-  and-false : (x y : Bool) → not x && not y ≡ false → y ≡ false → x ≡ true
-  and-false true y e f = refl
-  and-false false true e f = sym f
-  and-false false false e f = sym e
-
-  ended : (ds : List ℕ) (p i : ℕ) → (0 < p → Tailed a opts ds p) → ending a opts (state a ds p i) ≡ 0 → Closed a opts ds p
+  pub ended : (ds : List ℕ) (p i : ℕ) → (0 < p → Tailed a opts ds p) → ending a opts (state a ds p i) ≡ 0 → Closed a opts ds p
   unfolding ending wants
   ended ds p i t e =
       go (ltb 0 p) refl (eqb p (tail a (length ds % group a))) refl (eqb (length ds % group a) 0) refl (nopad opts) refl (eqb (tail a (length ds % group a)) 0) refl
@@ -180,7 +168,7 @@ module _ (a : ℕ) (h : a < 6) (opts : ℕ) where
 
   -- answer 0: the cleaned text is the written form of the good bytes
   pub accepts→written : (t : List ℕ) → readAll a opts t .answer ≡ 0 → written a (readAll a opts t .good) ≡ clean a opts t
-  unfolding readAll finish clean written
+  unfolding readAll finish clean
   accepts→written t e = go (progress a h opts [] t (going fresh []) (start a opts))
     where
       go : Seen a opts t (feedAll a opts (going fresh []) t) ⊎ Stop (feedAll a opts (going fresh []) t) → written a (readAll a opts t .good) ≡ clean a opts t
@@ -188,7 +176,7 @@ module _ (a : ℕ) (h : a < 6) (opts : ℕ) where
           let y : Tidy a (s .values) (cleared a opts (refilled a opts (shape a (s .values) (s .pads)))) =
           closed-tidy (s .values) (s .pads) (s .below)
           (ended (s .values) (s .pads) (length t) (s .tailed) (sym (ap (λ (z : Reading). finish a opts z .answer) (s .here)) ∙ e)) in
-          rw (s .spelt, s .here, ← y .same, digits-bytes (bits a) (y .digits .values) (y .digits .below) (y .digits .whole)) (y .digits .form)
+          rw (s .spelt, s .here) (tidy-written a (s .values) (cleared a opts (refilled a opts (shape a (s .values) (s .pads)))) y)
       go (inr x) = absurd (omega (arith, x .4, sym (ap (λ (z : Reading). finish a opts z .answer) (x .3)) ∙ e))
 
   pub good-below : (t : List ℕ) → readAll a opts t .answer ≡ 0 → Below 256 (readAll a opts t .good)
