@@ -2,3 +2,4 @@ pub mod ByCases
 pub mod Steps
 pub mod Bytes
 pub mod Loops
+pub mod AtLimit

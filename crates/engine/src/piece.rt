@@ -369,15 +369,34 @@ pub fn run(alphabet: usize, options: usize, start: Core, piece: &[u8], out: &mut
 pub fn count(alphabet: usize, options: usize, text: &[u8]) -> Ran
     ensures { λ r. ⌜ r ≡ Spec.freshAs alphabet options (now (text .entry)) ⌝ }
 {
+    let start = fresh();
     if allowed(alphabet, options) {
         let t = alphabet::table::table();
         let most = limit();
         if most < text.len() {
             let front = &text[..most];
-            let r = tally(&t, alphabet, options, fresh(), front);
+            let r = tally(&t, alphabet, options, start, front);
             return at_limit(r);
         }
-        return tally(&t, alphabet, options, fresh(), text);
+        return tally(&t, alphabet, options, start, text);
     }
-    unfit(fresh())
+    unfit(start)
+}
+
+// A whole text in place.
+pub fn in_place(alphabet: usize, options: usize, buf: &mut [u8]) -> Ran
+    ensures { λ r. ⌜ r ≡ Spec.freshAs alphabet options (now (buf .entry)) ⌝ }
+    ensures { λ r. ⌜ now (buf .exit) ≡ filled (Spec.freshBytes alphabet options (now (buf .entry))) (now (buf .entry)) ⌝ }
+{
+    let start = fresh();
+    if allowed(alphabet, options) {
+        let t = alphabet::table::table();
+        let most = limit();
+        if most < buf.len() {
+            let r = settle(&t, alphabet, options, start, &mut buf[..most]);
+            return at_limit(r);
+        }
+        return settle(&t, alphabet, options, start, buf);
+    }
+    unfit(start)
 }

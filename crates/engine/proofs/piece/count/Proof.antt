@@ -11,55 +11,47 @@ use Rattle.engine.proofs.piece.limit.Reads as limit-reads
 use Rattle.engine.proofs.piece.tally.Reads as tally-reads
 use Rattle.engine.proofs.piece.unfit.Reads as unfit-reads
 
--- src/piece.rt:372:8
-allowed-requires : tie.Need-allowed-requires
-allowed-requires c κs = search needs
-
--- src/piece.rt:373:17
-table-requires : tie.Need-table-requires
-table-requires c κs = search needs
-
--- src/piece.rt:374:13
-limit-requires : tie.Need-limit-requires
-limit-requires c κs = search needs
-
--- src/piece.rt:376:17
-slice-aggregate-front : tie.Need-slice-aggregate-front
-slice-aggregate-front c = ?
-
--- src/piece.rt:377:50
+-- src/piece.rt:372:9
 fresh-requires : tie.Need-fresh-requires
 fresh-requires c κs = search needs
 
+-- src/piece.rt:373:8
+allowed-requires : tie.Need-allowed-requires
+allowed-requires c κs = search needs
+
+-- src/piece.rt:374:17
+table-requires : tie.Need-table-requires
+table-requires c κs = search needs
+
+-- src/piece.rt:375:13
+limit-requires : tie.Need-limit-requires
+limit-requires c κs = search needs
+
 -- src/piece.rt:377:17
+slice-aggregate-front : tie.Need-slice-aggregate-front
+slice-aggregate-front c = ?
+
+-- src/piece.rt:378:17
 tally-requires : tie.Need-tally-requires
 tally-requires c κs = ?
 
--- src/piece.rt:378:13
+-- src/piece.rt:379:13
 at-limit-requires : tie.Need-at-limit-requires
 at-limit-requires c κs = search needs
 
--- src/piece.rt:378:13
+-- src/piece.rt:379:13
 returns : tie.Need-returns
 returns c = ?
 
--- src/piece.rt:380:45
-fresh-requires-2 : tie.Need-fresh-requires-2
-fresh-requires-2 c κs = search needs
-
--- src/piece.rt:380:9
+-- src/piece.rt:381:9
 tally-requires-2 : tie.Need-tally-requires-2
 tally-requires-2 c κs = ?
 
--- src/piece.rt:380:9
+-- src/piece.rt:381:9
 returns-2 : tie.Need-returns-2
 returns-2 c = ?
 
--- src/piece.rt:382:11
-fresh-requires-3 : tie.Need-fresh-requires-3
-fresh-requires-3 c κs = search needs
-
--- src/piece.rt:382:5
+-- src/piece.rt:383:5
 unfit-requires : tie.Need-unfit-requires
 unfit-requires c κs = search needs
 
@@ -71,17 +63,15 @@ pub count-spec : {M : Type 1} → statement M
 count-spec =
     tie.close
     (tie.spec
+    fresh-requires
     allowed-requires
     table-requires
     limit-requires
     slice-aggregate-front
-    fresh-requires
     tally-requires
     at-limit-requires
     returns
-    fresh-requires-2
     tally-requires-2
     returns-2
-    fresh-requires-3
     unfit-requires
     returns-3)
