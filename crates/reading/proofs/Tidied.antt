@@ -148,15 +148,15 @@ module _ (a opts : ℕ) (ok : allowed a opts ≡ true) where
   pub tidied-again : (t : List ℕ) → judged a opts t .answer ≡ 0 → Tidied a opts t (judged a opts t .good)
   tidied-again t z =
       let p : Promised a opts t (judged a opts t) = promised a h opts t in
-      let ac : Accepted a opts t × (length t ≤ limit) = p .zero-exactly .0 z in
-      let fits : length (clean a opts t) ≤ limit = clean-fits t (ac .0) (ac .1) in
-      let again : clean a opts (clean a opts t) ≡ clean a opts t = canonical-stays (clean a opts t) (ac .0) in
+      let both : Accepted a opts t × (length t ≤ limit) = p .zero-exactly .0 z in
+      let fits : length (clean a opts t) ≤ limit = clean-fits t (both .0) (both .1) in
+      let again : clean a opts (clean a opts t) ≡ clean a opts t = canonical-stays (clean a opts t) (both .0) in
       record {
         form = sym (p .form z);
-        canonical = ac .0;
+        canonical = both .0;
         again = again;
         strictly = strict-cleans-nothing a (clean a opts t);
-        accepted = rw again (ac .0);
+        accepted = rw again (both .0);
         same-bytes = reads-back (clean a opts t) (judged a opts t .good) (p .bytes) (p .form z) fits .1;
         fits = fits;
       }
