@@ -14,7 +14,8 @@ use Rattle.reading.specs.Reader.{State, refuses, onDigit, onPad, step}
 use Rattle.engine.specs.declared.rule.Core.{Core}
 use Rattle.engine.specs.declared.rule.Took.{Took}
 use Rattle.engine.specs.Meaning.{stateOf, stepOf}
-use Rattle.reading.proofs.StepCases.{Digits, symbol-digits, symbol-pads, symbol-foreign, Stands, stands, allowed-alphabet}
+use Rattle.reading.proofs.StepCases.{Digits, symbol-digits, symbol-pads, symbol-foreign, Stands, stands}
+use Rattle.reading.proofs.OptionLaws.{allowed-alphabet}
 
 -- the symbol that the lent table gives, where it is the reverse table
 pub told : {t : List ℕ} {a c : ℕ} {y : Symbol} → t ≡ entries → a < 6 → c < 256 → symbolIn t a c ≡ y → symbolOf a c ≡ y

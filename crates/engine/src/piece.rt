@@ -7,7 +7,7 @@ use crate::rule::Took;
 use crate::rule::on_digit;
 use crate::rule::rare;
 use alphabet::table::Symbol;
-ghost use Prim.Native.Nat.{_≤_};
+ghost use Prim.Native.Nat.{_<_, _≤_};
 ghost use mathlib.Core.Path.{_≡_};
 ghost use mathlib.Core.Bool.{true};
 ghost use lib.ListN.{length};
@@ -270,6 +270,7 @@ fn settle(t: &[u8; 1536], alphabet: usize, options: usize, start: Core, buf: &mu
 
 // Whether the held bits are as many as the digits leave.
 fn small(alphabet: usize, digits: usize, held: u8) -> bool
+    requires { ⌜ alphabet < 6 ⌝ }
     requires { ⌜ digits ≤ Limit.limit ⌝ }
     ensures { λ r. ⌜ r ≡ Spec.small alphabet digits held ⌝ }
 {
@@ -314,9 +315,9 @@ fn at_limit(r: Ran) -> Ran
             took,
             wrote,
         },
-        Why::Refused(c) => Ran {
+        Why::Refused(cause) => Ran {
             core,
-            why: Why::Refused(c),
+            why: Why::Refused(cause),
             took,
             wrote,
         },

@@ -42,7 +42,7 @@ pub enum End {
 }
 
 // Whether LINES or BLANK drops the byte.
-fn dropped(options: usize, byte: u8) -> bool
+pub fn dropped(options: usize, byte: u8) -> bool
     ensures { λ r. ⌜ r ≡ Cleaning.dropped options byte ⌝ }
 {
     match byte {
@@ -55,7 +55,7 @@ fn dropped(options: usize, byte: u8) -> bool
 }
 
 // The byte in the alphabet's own case, where CASE is set.
-fn turned(alphabet: usize, options: usize, byte: u8) -> u8
+pub fn turned(alphabet: usize, options: usize, byte: u8) -> u8
     ensures { λ r. ⌜ r ≡ Cleaning.turned alphabet options byte ⌝ }
 {
     if chosen(16, options) {

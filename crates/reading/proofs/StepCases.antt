@@ -16,6 +16,7 @@ use Rattle.alphabet.proofs.TableLaws.{symbol-digit, symbol-pad, symbol-neither}
 use Rattle.reading.specs.Options.{chosen, lines, blank, anyCase, allowed}
 use Rattle.reading.specs.Cleaning.{dropped, turned, upper, lower}
 use Rattle.reading.specs.Reader.{State, Step, takes, gives, refuses, passes, onDigit, onPad, step}
+use Rattle.reading.proofs.OptionLaws.{allowed-alphabet}
 use Rattle.reading.proofs.PlainText.{kept-high, own-stays, turned-pad, turned-back}
 
 module _ (a opts : ℕ) (s : State) (c : ℕ) where
@@ -92,14 +93,6 @@ case-is-off a opts e l = go (ltb a 6 && ltb opts 32) (anyCase opts) (rw (lt-ltb 
     go true true e = sym e
     go true false e = refl
     go false y e = absurd (subst T (sym e) tt)
-
-pub allowed-alphabet : (a opts : ℕ) → allowed a opts ≡ true → a < 6
-unfolding allowed
-allowed-alphabet a opts e = go (ltb a 6) refl e
-  where
-    go : (x : Bool) → ltb a 6 ≡ x → x && ltb opts 32 && not (anyCase opts && ltb a 2) ≡ true → a < 6
-    go true f e = ltb-true a 6 f
-    go false f e = absurd (subst T (sym e) tt)
 
 case-off : (a opts c : ℕ) → anyCase opts ≡ false → turned a opts c ≡ c
 unfolding turned

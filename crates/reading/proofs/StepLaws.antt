@@ -17,7 +17,6 @@ use Rattle.reading.specs.Cleaning.{dropped, turned}
 use Rattle.reading.specs.Reader.{State, Step, takes, gives, refuses, fresh, wants, heldBits, passes, onDigit, onPad, step}
 use Rattle.reading.specs.Sound.{Sound}
 
-
 pub fresh-sound : (a : ℕ) → Sound a fresh
 unfolding heldBits
 fresh-sound a = record { held = pow-pos (bits a * 0 % 8); digits = omega arith; pads = omega arith }

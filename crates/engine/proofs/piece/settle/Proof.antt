@@ -5,7 +5,7 @@ use native.Mathlib.Omega.{arith}
 use lib.ListN.{length, getD}
 use borrow.Author.Needs.{needs}
 use Rattle.reading.specs.Reader.{step}
-use Rattle.reading.proofs.StepCases.{allowed-alphabet}
+use Rattle.reading.proofs.OptionLaws.{allowed-alphabet}
 use Rattle.engine.specs.Meaning.{stateOf}
 use Rattle.engine.proofs.Bytes.{plain-digit, digit-does}
 use Rattle.engine.proofs.Loops.{Inside, inside-begins, inside-reads, inside-in, inside-takes, inside-gives, same-size, filling-done, fit, loop-refused, loop-all}

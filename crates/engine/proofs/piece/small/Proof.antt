@@ -1,25 +1,25 @@
+-- `piece::small`: a shift makes the power. Assumes nothing.
+use Prim.Native.Nat.{_<_, _^_}
+use mathlib.Core.Path.{sym, ap, _∙_}
+use native.Mathlib.Omega.{arith}
+use Rattle.engine.specs.Ran.{small}
+use Rattle.engine.proofs.AtLimit.{small-product, one-shifted}
 use borrow.Author.Needs.{needs}
 use Rattle.engine.proofs.piece.small.Statement.{statement}
 use Rattle.engine.proofs.piece.small.Tie as tie
-use Rattle.engine.proofs.piece.small.Reads as reads
-use Rattle.engine.proofs.piece.small.Lts as lts
-use Rattle.alphabet.proofs.sizes.bits.Reads as bits-reads
 
--- src/piece.rt:276:9
 bits-requires : tie.Need-bits-requires
 bits-requires c κs = search needs
 
--- src/piece.rt:277:13
 mul-r : tie.Need-mul-r
-mul-r c = ?
+mul-r c = rw (c .bits .ensures) (omega (arith, small-product _ _ (c .before .pre .0) (c .before .pre .1)))
 
--- src/piece.rt:278:20
 shl-w : tie.Need-shl-w
 shl-w c = search needs
 
--- src/piece.rt:272:1
 returns : tie.Need-returns
-returns c = ?
+unfolding small
+returns c = rw (← c .bits .ensures, one-shifted _ _)
 
 pub small-spec : {M : Type 1} → statement M
 small-spec = tie.close (tie.spec bits-requires mul-r shl-w returns)
