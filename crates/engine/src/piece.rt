@@ -89,7 +89,7 @@ fn fill(
                             wrote: n,
                         };
                     }
-                    out[n] = x;
+                    out[n] = x; // n is below the room
                     n += 1;
                     k = c;
                     i += 1;
@@ -224,7 +224,7 @@ fn settle(t: &[u8; 1536], alphabet: usize, options: usize, start: Core, buf: &mu
                     i += 1;
                 }
                 Took::Gives(x, c) => {
-                    buf[n] = x;
+                    buf[n] = x; // n is never past i
                     n += 1;
                     k = c;
                     i += 1;
