@@ -1,0 +1,5 @@
+pub mod Stream
+pub mod Given
+pub mod Calls
+pub mod Reached
+pub mod Driving
