@@ -3,3 +3,4 @@ pub mod Given
 pub mod Calls
 pub mod Reached
 pub mod Driving
+pub mod Promises
