@@ -27,3 +27,4 @@ pub mod StepCases
 pub mod RunRoom
 pub mod Refusals
 pub mod Building
+pub mod Taking

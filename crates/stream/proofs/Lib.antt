@@ -1,3 +1,4 @@
 pub mod Order
 pub mod Standing
 pub mod AfterCalls
+pub mod GivenLaws

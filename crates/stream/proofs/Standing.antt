@@ -1,6 +1,6 @@
 -- Where a stream stands after any calls: its state is that of the text taken, and its status says how that text can be refused, or that it is whole.
 -- Assumes nothing.
-use Prim.Native.Nat.{ℕ, _+_, _<_, _≤_}
+use Prim.Native.Nat.{ℕ, zero, suc, _+_, _<_, _≤_}
 use mathlib.Core.Path.{_≡_, refl, sym, ap, _∙_, subst}
 use mathlib.Core.Bool.{Bool, true, false, cond}
 use mathlib.Core.List.{List, [], _∷_, _++_, append-nil}
@@ -27,7 +27,7 @@ use Rattle.stream.proofs.Order.{nine-sticks, ten-sticks, refusal-sticks
 -- what is refused with k after what the state has taken: the byte at the limit, a byte before it, or the text's end
 pub data Refusal (a opts : ℕ) (s : State) : ℕ → Type 0 where
   at-limit : s .taken ≡ limit → Refusal a opts s 2
-  at-byte : {k : ℕ} → s .taken < limit → (c : ℕ) → step a opts s c ≡ refuses k → Refusal a opts s k
+  at-byte : {k : ℕ} → s .taken < limit → (c : ℕ) → c < 256 → step a opts s c ≡ refuses k → Refusal a opts s k
   at-end : {k : ℕ} → ending a opts s ≡ k → 0 < k → Refusal a opts s k
 
 abbrev pub Stands : ℕ → ℕ → State → Status → Type 0
@@ -44,6 +44,11 @@ pub record Standing (a opts : ℕ) (t out : List ℕ) (s : Stream) : Type 0 wher
   pub taken : s .state .taken ≡ length t
   pub within : length t ≤ limit
   pub stands : Stands a opts (s .state) (s .status)
+
+below-at : (xs : List ℕ) (i : ℕ) → Below 256 xs → i < length xs → getD xs i 0 < 256
+below-at [] i b l = omega arith
+below-at (x ∷ xs) zero b l = b .0
+below-at (x ∷ xs) (suc i) b l = below-at xs i (b .1) (omega arith)
 
 -- ---- a start
 
@@ -65,15 +70,15 @@ module _ {a opts : ℕ} {t out : List ℕ} {s : Stream} (x : Standing a opts t o
 
   -- ---- a step
 
-  why-stands : (piece : List ℕ) (room : ℕ) (r : Ran) → PieceFeeds a opts piece (s .state) room out r → (w : Why) → r .why ≡ w → Stands a opts (r .state) (whyStatus w)
+  why-stands : (piece : List ℕ) → Below 256 piece → (room : ℕ) (r : Ran) → PieceFeeds a opts piece (s .state) room out r → (w : Why) → r .why ≡ w → Stands a opts (r .state) (whyStatus w)
   unfolding whyStatus
-  why-stands piece room r f all e = tt
-  why-stands piece room r f (refused k) e = go (eqb k 2) refl
+  why-stands piece b room r f all e = tt
+  why-stands piece b room r f (refused k) e = go (eqb k 2) refl
     where
       go : (y : Bool) → eqb k 2 ≡ y → Refusal a opts (r .state) k
       go true q = let k2 : k ≡ 2 = eqb-true k 2 q in subst (Refusal a opts (r .state)) (sym k2) (at-limit (f .two-at (e ∙ ap refused k2)))
-      go false q = at-byte (f .refused-before k e (eqb-false k 2 q)) (getD piece (r .took) 0) (f .refused-step k e (eqb-false k 2 q))
-  why-stands piece room r f full e = tt
+      go false q = at-byte (f .refused-before k e (eqb-false k 2 q)) (getD piece (r .took) 0) (below-at piece (r .took) b (f .refused-inside k e)) (f .refused-step k e (eqb-false k 2 q))
+  why-stands piece b room r f full e = tt
 
   ran-stands : (piece : List ℕ) → Below 256 piece → (room : ℕ) (r : Ran) → PieceFeeds a opts piece (s .state) room out r
       → Standing a opts (t ++ take (ran s r .took) piece) (out ++ ran s r .wrote) (ran s r .stream)
@@ -88,7 +93,7 @@ module _ {a opts : ℕ} {t out : List ℕ} {s : Stream} (x : Standing a opts t o
         reads = feed-append a opts (going fresh []) t (take (r .took) piece) ∙ ap (λ (z : Reading). feedAll a opts z (take (r .took) piece)) (x .reads) ∙ f .so-far;
         taken = rw length-append (omega (arith, f .taken, x .taken));
         within = rw length-append (omega (arith, f .taken, x .taken, f .in-limit));
-        stands = why-stands piece room r f (r .why) refl;
+        stands = why-stands piece b room r f (r .why) refl;
       }
 
   pub step-stands : (piece : List ℕ) → Below 256 piece → (room : ℕ)
