@@ -2,3 +2,4 @@ pub mod Order
 pub mod Standing
 pub mod AfterCalls
 pub mod GivenLaws
+pub mod Reaching
