@@ -3,3 +3,4 @@ pub mod Standing
 pub mod AfterCalls
 pub mod GivenLaws
 pub mod Reaching
+pub mod GoesOn

@@ -8,9 +8,9 @@ use lib.ListN.{length, take, getD}
 use Rattle.alphabet.specs.Bits.{Below}
 use Rattle.reading.specs.Limit.{limit}
 use Rattle.reading.specs.Continuation.{Continued, LongestShared}
-use Rattle.reading.specs.Reader.{State, gives, going, fresh, step, feedAll, Verdict, judged}
+use Rattle.reading.specs.Reader.{State, gives, refuses, going, fresh, step, feedAll, Verdict, judged}
 use Rattle.reading.specs.Promises.{Promised}
-use Rattle.stream.specs.Stream.{live, Stream}
+use Rattle.stream.specs.Stream.{live, shut, done, Stream}
 use Rattle.stream.specs.Calls.{Called, unmoved, stepOf, finishOf}
 use Rattle.stream.specs.Driving.{Driven, Refused}
 
@@ -28,3 +28,52 @@ pub record AfterCalls (a opts : ℕ) (t out : List ℕ) (s : Stream) : Type 0 wh
   pub within : length t ≤ limit
   pub continued : Continued a opts t
   pub shared : LongestShared a opts t out
+
+-- ---- a text offered in pieces
+
+-- what a finish after all this tells, with the bytes joined
+abbrev pub verdictOf : Driven → Verdict
+verdictOf d = record { answer = finishOf (d .stream) .answer; position = finishOf (d .stream) .position; good = d .out ++ finishOf (d .stream) .wrote }
+
+-- joined bytes, answer and position are those of the whole text, with all that is promised of them; and after answer 0 the stream is finished
+pub record Settles (a opts : ℕ) (text : List ℕ) (d : Driven) : Type 0 where
+  pub whole : verdictOf d ≡ judged a opts text
+  pub promised : Promised a opts text (verdictOf d)
+  pub finished : verdictOf d .answer ≡ 0 → finishOf (d .stream) .stream .status ≡ done
+
+-- ---- one step
+
+-- the whole piece is taken
+pub record TookAll (piece : List ℕ) (c : Called) : Type 0 where
+  pub answer : c .answer ≡ 0
+  pub took : c .took ≡ length piece
+  pub goes : c .stream .status ≡ live
+
+-- the next byte is refused: with 2 at the limit, whatever it is, else by the reader's rule
+pub record RefusedNext (a opts : ℕ) (piece : List ℕ) (c : Called) : Type 0 where
+  pub status : c .stream .status ≡ shut (c .answer)
+  pub inside : c .took < length piece
+  pub place : c .position ≡ c .stream .state .taken
+  pub why : ((c .answer ≡ 2) × (c .position ≡ limit)) ⊎ ((c .position < limit) × (step a opts (c .stream .state) (getD piece (c .took) 0) ≡ refuses (c .answer)))
+
+-- the next byte would complete a byte, and the room is full
+pub record NextNeedsRoom (a opts : ℕ) (piece : List ℕ) (room : ℕ) (c : Called) : Type 0 where
+  pub answer : c .answer ≡ 3
+  pub inside : c .took < length piece
+  pub place : c .position ≡ c .stream .state .taken
+  pub before : c .position < limit
+  pub full : length (c .wrote) ≡ room
+  pub byte : ℕ
+  pub next : State
+  pub needs : step a opts (c .stream .state) (getD piece (c .took) 0) ≡ gives byte next
+  pub goes : c .stream .status ≡ live
+
+-- a step stops only when the piece is taken, a byte is refused or the room is full for the byte that needs it; with room for a byte and a byte
+-- offered it takes one or refuses
+pub record GoesOn (s : Stream) (piece : List ℕ) (room : ℕ) : Type 0 where
+  pub stops :
+      TookAll piece (stepOf s piece room)
+      ⊎ (RefusedNext (s .alphabet) (s .options) piece (stepOf s piece room) ⊎ NextNeedsRoom (s .alphabet) (s .options) piece room (stepOf s piece room))
+  pub moves : 0 < length piece → 0 < room → (0 < stepOf s piece room .took) ⊎ Refused (stepOf s piece room .stream)
+  pub within : stepOf s piece room .took ≤ length piece
+  pub fits : length (stepOf s piece room .wrote) ≤ room
