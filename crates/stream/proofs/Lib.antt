@@ -4,3 +4,4 @@ pub mod AfterCalls
 pub mod GivenLaws
 pub mod Reaching
 pub mod GoesOn
+pub mod DrivingLaws

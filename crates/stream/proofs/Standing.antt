@@ -52,16 +52,20 @@ below-at (x ∷ xs) (suc i) b l = below-at xs i (b .1) (omega arith)
 
 -- ---- a start
 
-start-stands : (a opts : ℕ) (s : Stream) → startOf a opts ≡ started s → Standing a opts [] [] s
-unfolding startOf feedAll
-start-stands a opts s e = go (allowed a opts) refl e
+pub start-is : (a opts : ℕ) (s : Stream) → startOf a opts ≡ started s → (allowed a opts ≡ true) × (freshStream a opts ≡ s)
+unfolding startOf
+start-is a opts s e = go (allowed a opts) refl e
   where
-    go : (x : Bool) → allowed a opts ≡ x → cond x (started (freshStream a opts)) declined ≡ started s → Standing a opts [] [] s
-    go true f e =
-        let same : freshStream a opts ≡ s = cc in
-        subst (Standing a opts [] []) same
-        (record { alphabet = refl; options = refl; choice = f; bytes = tt; reads = refl; taken = refl; within = omega arith; stands = tt })
+    go : (x : Bool) → allowed a opts ≡ x → cond x (started (freshStream a opts)) declined ≡ started s → (allowed a opts ≡ true) × (freshStream a opts ≡ s)
+    go true f e = (f, cc)
     go false f e = absurd (let z : _≡_ {A = ℕ} 0 1 = cc in omega arith)
+
+start-stands : (a opts : ℕ) (s : Stream) → startOf a opts ≡ started s → Standing a opts [] [] s
+unfolding feedAll
+start-stands a opts s e =
+    let x = start-is a opts s e in
+    subst (Standing a opts [] []) (x .1)
+    (record { alphabet = refl; options = refl; choice = x .0; bytes = tt; reads = refl; taken = refl; within = omega arith; stands = tt })
 
 module _ {a opts : ℕ} {t out : List ℕ} {s : Stream} (x : Standing a opts t out s) where
   -- a call that returns the state unchanged

@@ -1,5 +1,5 @@
 -- 01, "Streams": a text offered in pieces, and again what was not taken, into any room at each call. Assumes nothing.
-use Prim.Native.Nat.{ℕ}
+use Prim.Native.Nat.{ℕ, _<_}
 use mathlib.Core.Path.{_≡_}
 use mathlib.Core.Logic.{_⊎_}
 use mathlib.Core.List.{List, [], _∷_, _++_}
@@ -30,6 +30,11 @@ offer o d = told d (stepOf (d .stream) (take (o .size) (d .left)) (o .room))
 unfoldable pub drive : List Offer → Driven → Driven
 drive [] d = d
 drive (o ∷ os) d = drive os (offer o d)
+
+-- each call offers a byte, where one is left, and has room for one
+abbrev pub Offering : List Offer → Type 0
+Offering [] = Unit {0}
+Offering (o ∷ os) = (0 < o .size) × (0 < o .room) × Offering os
 
 -- a byte was refused
 pub record Refused (s : Stream) : Type 0 where
