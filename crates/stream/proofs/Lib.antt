@@ -5,3 +5,4 @@ pub mod GivenLaws
 pub mod Reaching
 pub mod GoesOn
 pub mod DrivingLaws
+pub mod AnyCutting
