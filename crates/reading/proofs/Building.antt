@@ -12,8 +12,10 @@ use borrow.Author.Tests.{ltb-true, ltb-false}
 use Rattle.alphabet.specs.Bits.{Below}
 use Rattle.alphabet.specs.Digits.{bytesOf, leftOf}
 use Rattle.alphabet.specs.Alphabet.{bits, group, tail, digit, pad}
-use Rattle.alphabet.proofs.Below.{below-append, below-replicate, below-map}
-use Rattle.alphabet.proofs.DigitBytes.{otherCase, digit-high, digit-low, digit-own}
+use Rattle.alphabet.proofs.Below.{below-append, below-replicate}
+use Rattle.alphabet.proofs.Edges.{digit-own}
+use Rattle.alphabet.proofs.Shapes.{shape, shape-below}
+use Rattle.alphabet.proofs.Symbols.{digit-printable}
 use Rattle.alphabet.proofs.DigitLaws.{regrouped}
 use Rattle.alphabet.proofs.Leaving.{Leaving, leaving}
 use Rattle.reading.specs.Limit.{limit}
@@ -21,10 +23,11 @@ use Rattle.reading.specs.Options.{lines, blank, anySpare, anyCase, allow
 use Rattle.reading.specs.Cleaning.{dropped, kept, turned}
 use Rattle.reading.specs.Reader.{State, Reading, going, fresh, wants, heldBits, feedAll}
 use Rattle.reading.proofs.ReaderLaws.{state, seen}
-use Rattle.reading.proofs.Judging.{plain, Seen, plain-append, turned-pad, fresh-seen}
-use Rattle.reading.proofs.Lax.{shape}
-use Rattle.reading.proofs.LaxComplete.{feed-shape}
-use Rattle.reading.proofs.Continuations.{kept-high, own-stays, plain-one}
+use Rattle.reading.proofs.OptionLaws.{allowed-case}
+use Rattle.reading.proofs.PlainText.{plain, plain-append, turned-pad, kept-high, own-stays, drops-exactly}
+use Rattle.reading.proofs.Seen.{Seen, fresh-seen}
+use Rattle.reading.proofs.AcceptedIsZero.{feed-shape}
+use Rattle.reading.proofs.Continuations.{plain-one}
 use Rattle.reading.proofs.Fronts.{seen-going}
 
 -- what every state fits that a text leads to
@@ -88,26 +91,18 @@ module _ (a : ℕ) (h : a < 6) (opts : ℕ) (t : List ℕ) where
 module _ (a : ℕ) (h : a < 6) (opts : ℕ) (c : allowed a opts ≡ true) where
   -- digits stay as they are
 
-  case-late : anyCase opts ≡ true → 2 ≤ a
-  unfolding allowed
-  case-late e = go (ltb a 6 && ltb opts 32) (ltb a 2) refl (rw e at c)
-    where
-      go : (x z : Bool) → ltb a 2 ≡ z → x && not z ≡ true → 2 ≤ a
-      go x false f g = ltb-false a 2 f
-      go x true f g = absurd (subst T (sym (sym (and-false x) ∙ g)) tt)
-
   digit-stays : {v : ℕ} → v < 2 ^ bits a → turned a opts (digit a v) ≡ digit a v
   unfolding turned
   digit-stays {v} l = go (anyCase opts) refl
     where
       go : (x : Bool) → anyCase opts ≡ x → turned a opts (digit a v) ≡ digit a v
-      go true e = own-stays a opts (digit a v) (digit-own a h (case-late e) l)
+      go true e = own-stays a opts (digit a v) (digit-own a h (allowed-case a opts c e) l)
       go false e = rw e
 
   plain-digits : (ds : List ℕ) → Below (2 ^ bits a) ds → plain a opts (map (digit a) ds) ≡ map (digit a) ds
   unfolding kept
   plain-digits [] l = refl
-  plain-digits (v ∷ ds) l = rw (kept-high opts (digit a v) (digit-high a h (l .0)), digit-stays (l .0), plain-digits ds (l .1))
+  plain-digits (v ∷ ds) l = rw (kept-high opts (digit a v) (digit-printable a h (l .0) .0), digit-stays (l .0), plain-digits ds (l .1))
 
   -- bytes that are dropped
 
@@ -131,8 +126,8 @@ module _ (a : ℕ) (h : a < 6) (opts : ℕ) (c : allowed a opts ≡ true) where
   dropping n f = go (lines opts) refl (blank opts) refl
     where
       go : (x : Bool) → lines opts ≡ x → (y : Bool) → blank opts ≡ y → Dropping n
-      go true e y g = drops 10 (omega arith) (rw e) n
-      go false e true g = drops 32 (omega arith) (rw (e, g)) n
+      go true e y g = drops 10 (omega arith) (drops-exactly opts 10 .1 (inl (e, inr refl))) n
+      go false e true g = drops 32 (omega arith) (drops-exactly opts 32 .1 (inr (g, inl refl))) n
       go false e false g = record { text = []; bytes = tt; size = sym (f e g); none = refl }
 
   -- the text
@@ -164,12 +159,7 @@ module _ (a : ℕ) (h : a < 6) (opts : ℕ) (c : allowed a opts ≡ true) where
 
     built-bytes : Below 256 built
     unfolding built
-    built-bytes =
-        below-append 256 (shape a (ds .values) (s .pads)) (rest .text)
-        (below-append 256 (map (digit a) (ds .values)) (replicate (s .pads) pad)
-        (below-map 256 (2 ^ bits a) (digit a) (λ v l. omega (arith, digit-low a h l)) (ds .values) (ds .below))
-        (below-replicate 256 (s .pads) (omega arith)))
-        (rest .bytes)
+    built-bytes = below-append 256 (shape a (ds .values) (s .pads)) (rest .text) (shape-below a h (ds .values) (s .pads) (ds .below)) (rest .bytes)
 
     fits : s .pads ≤ tail a (length (ds .values) % group a)
     unfolding wants

@@ -28,4 +28,3 @@ pub mod RunRoom
 pub mod Refusals
 pub mod Building
 pub mod Taking
-pub mod Verdicts

@@ -9,14 +9,14 @@ use lib.Dec.{T, eqb, ltb}
 use lib.Pow.{pow-pos}
 use borrow.Author.Tests.{ltb-true, ltb-false, lt-ltb, le-ltb, eqb-true, eqb-false, eq-eqb, ne-eqb, not-true, not-false}
 use Rattle.alphabet.specs.Alphabet.{bits, group, tail, value, digit, isDigit, padded, isPad, pad}
-use Rattle.alphabet.proofs.AlphabetLaws.{group-pos, digit-value, pad-no-digit, tail-padded}
-use Rattle.alphabet.proofs.DigitBytes.{otherCase, digit-high, digit-low, edge-own}
+use Rattle.alphabet.proofs.AlphabetLaws.{group-pos, tail-padded}
+use Rattle.alphabet.proofs.Edges.{otherCase, edge-own}
+use Rattle.alphabet.proofs.Symbols.{digit-is, IsDigit, is-digit, pad-is, is-pad, pad-is-no-digit, digit-printable, digit-byte}
 use Rattle.alphabet.proofs.WrittenLaws.{InTable, in-table}
 use Rattle.reading.specs.Options.{nopad, anySpare}
 use Rattle.reading.specs.Cleaning.{dropped, turned}
 use Rattle.reading.specs.Reader.{State, Step, takes, gives, refuses, wants, heldBits, onDigit, onPad, step, ending}
-use Rattle.reading.proofs.Judging.{turned-pad, digit-is}
-use Rattle.reading.proofs.Continuations.{kept-high, own-stays}
+use Rattle.reading.proofs.PlainText.{turned-pad, kept-high, own-stays}
 
 -- a first pad would be refused for the bits held
 pub record SpareLeft (a opts : ℕ) (s : State) : Type 0 where
@@ -73,20 +73,12 @@ module _ (a opts : ℕ) (s : State) where
       (λ e. either Blames (eqb (wants a s) 0) (λ f. misplaced p (omega (arith, ltb-false 0 (s .pads) e)) (eqb-true (wants a s) 0 f))
       (λ f. either Blames (not (eqb (s .held) 0) && not (anySpare opts)) (λ g. spare (spare-left e f g)) (λ g. tt)))
 
-  pad-padded : (c : ℕ) → isPad a c ≡ true → padded a ≡ true
-  unfolding isPad
-  pad-padded c e = go (padded a) e
-    where
-      go : (x : Bool) → cond x (eqb c pad) false ≡ true → x ≡ true
-      go true e = refl
-      go false e = e
-
   step-blames : (c : ℕ) → Blames (step a opts s c)
   unfolding step
   step-blames c =
       either Blames (dropped opts c) (λ e. tt)
       (λ e. either Blames (isDigit a (turned a opts c)) (λ f. digit-blames (value a (turned a opts c)))
-      (λ f. either Blames (isPad a c) (λ g. pad-blames (pad-padded c g)) (λ g. foreign)))
+      (λ f. either Blames (isPad a c) (λ g. pad-blames (is-pad a c g .0)) (λ g. foreign)))
 
   pub blame : (c k : ℕ) → step a opts s c ≡ refuses k → Blame a opts s k
   blame c k e = subst Blames e (step-blames c)
@@ -140,28 +132,26 @@ module _ (a : ℕ) (h : a < 6) (opts : ℕ) (s : State) where
       go false = refl
 
   high-no-digit : isDigit a 128 ≡ false
-  unfolding isDigit
-  high-no-digit = go (digit-value a h 128)
+  high-no-digit = go (isDigit a 128) refl
     where
-      go : (value a 128 ≡ 255) ⊎ ((value a 128 < 2 ^ bits a) × (digit a (value a 128) ≡ 128)) → not (eqb (value a 128) 255) ≡ false
-      go (inl e) = rw (eq-eqb (value a 128) 255 e)
-      go (inr p) = absurd (omega (arith, digit-low a h (p .0), p .1))
+      go : (x : Bool) → isDigit a 128 ≡ x → isDigit a 128 ≡ false
+      go true e = let d : IsDigit a 128 = is-digit a h 128 e in absurd (omega (arith, digit-printable a h (d .small) .1, d .same))
+      go false e = e
 
   high-no-pad : isPad a 128 ≡ false
-  unfolding isPad
-  high-no-pad = go (padded a)
+  high-no-pad = go (isPad a 128) refl
     where
-      go : (x : Bool) → cond x false false ≡ false
-      go true = refl
-      go false = refl
+      go : (x : Bool) → isPad a 128 ≡ x → isPad a 128 ≡ false
+      go true e = absurd (omega (arith, is-pad a 128 e .1))
+      go false e = e
 
   refuses-high : step a opts s 128 ≡ refuses 4
   unfolding step
   refuses-high = rw (kept-high opts 128 (omega arith), own-stays a opts 128 high-own, high-no-digit, high-no-pad)
 
   on-pad : padded a ≡ true → step a opts s pad ≡ onPad a opts s
-  unfolding step isPad isDigit
-  on-pad p = rw (kept-high opts pad (omega arith), turned-pad a opts, pad-no-digit a h, p)
+  unfolding step
+  on-pad p = rw (kept-high opts pad (omega arith), turned-pad a opts, pad-is-no-digit a h, pad-is a p)
 
   refuses-pad : padded a ≡ true → s .pads ≡ 0 → wants a s ≡ 0 → step a opts s pad ≡ refuses 5
   unfolding onPad
@@ -182,7 +172,7 @@ module _ (a : ℕ) (h : a < 6) (opts : ℕ) (s : State) where
   unfolding step onDigit
   refuses-digit l =
       rw (
-        kept-high opts (digit a 0) (digit-high a h (pow-pos (bits a))),
+        kept-high opts (digit a 0) (digit-printable a h (pow-pos (bits a)) .0),
         own-stays a opts (digit a 0) (edge-own a h false),
         digit-is a h (pow-pos (bits a)),
         lt-ltb 0 (s .pads) l,
@@ -192,4 +182,4 @@ module _ (a : ℕ) (h : a < 6) (opts : ℕ) (s : State) where
   refuser foreign = record { byte = 128; small = omega arith; refused = refuses-high }
   refuser (misplaced p e f) = record { byte = pad; small = omega arith; refused = refuses-pad p e f }
   refuser (spare x) = record { byte = pad; small = omega arith; refused = refuses-spare x }
-  refuser (late l) = record { byte = digit a 0; small = omega (arith, digit-low a h (pow-pos (bits a))); refused = refuses-digit l }
+  refuser (late l) = record { byte = digit a 0; small = digit-byte a h (pow-pos (bits a)); refused = refuses-digit l }

@@ -10,9 +10,10 @@ use Rattle.alphabet.specs.Alphabet.{bits}
 use Rattle.alphabet.specs.Digits.{bytesOf}
 use Rattle.reading.specs.Options.{anyCase, allowed}
 use Rattle.reading.specs.Reader.{Reading, going, fresh, feedAll}
-use Rattle.reading.proofs.Judging.{Seen}
+use Rattle.reading.proofs.Seen.{Seen}
 use Rattle.reading.proofs.ReaderLaws.{seen}
 use Rattle.reading.proofs.Continuations.{read-continued}
+use Rattle.reading.proofs.OptionLaws.{allowed-alphabet}
 use Rattle.reading.proofs.Fronts.{seen-going}
 use Rattle.reading.proofs.Shared.{longest-shared}
 use Rattle.stream.specs.Stream.{Stream}
@@ -20,18 +21,9 @@ use Rattle.stream.specs.Reached.{Calls}
 use Rattle.stream.specs.Promises.{AfterCalls}
 use Rattle.stream.proofs.Standing.{Standing, standing}
 
--- the alphabet of an allowed choice is one of the six
-pub known : (a opts : ℕ) → allowed a opts ≡ true → a < 6
-unfolding allowed
-known a opts e = go (ltb a 6) refl e
-  where
-    go : (x : Bool) → ltb a 6 ≡ x → x && ltb opts 32 && not (anyCase opts && ltb a 2) ≡ true → a < 6
-    go true f e = ltb-true a 6 f
-    go false f e = ltb-true a 6 (f ∙ e)
-
 pub standing-after : {a opts : ℕ} {t out : List ℕ} {s : Stream} → Standing a opts t out s → AfterCalls a opts t out s
 standing-after {a} {opts} {t} {out} {s} x =
-    let h : a < 6 = known a opts (x .choice) in
+    let h : a < 6 = allowed-alphabet a opts (x .choice) in
     let r : Seen a opts t (feedAll a opts (going fresh []) t) = seen-going a h opts t (x .reads) in
     let e : going (s .state) out ≡ seen a (r .values) (r .pads) _ = sym (x .reads) ∙ r .here in
     let o : out ≡ bytesOf (bits a) (r .values) = cc in

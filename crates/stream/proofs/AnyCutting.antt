@@ -15,15 +15,15 @@ use Rattle.reading.specs.Limit.{limit}
 use Rattle.reading.specs.Reader.{refuses, step, ending, judged, Verdict}
 use Rattle.reading.specs.Promises.{Promised}
 use Rattle.reading.proofs.Meaning.{promised}
+use Rattle.reading.proofs.OptionLaws.{allowed-alphabet}
 use Rattle.reading.proofs.Positions.{refuses-range}
-use Rattle.reading.proofs.Verdicts.{judged-end, judged-past, judged-refused}
+use Rattle.reading.proofs.Joined.{judged-end, judged-past, judged-refused}
 use Rattle.stream.specs.Stream.{Status, live, shut, done, Stream, started, startOf}
 use Rattle.stream.specs.Calls.{Called, unmoved, stepOf, endStatus, closes, finishOf}
 use Rattle.stream.specs.Driving.{Offer, Driven, begin, told, offer, drive, Offering, Refused, Settled}
 use Rattle.stream.specs.Promises.{verdictOf, Settles, GoesOn}
 use Rattle.stream.proofs.Order.{refusal-sticks, live-finish}
 use Rattle.stream.proofs.Standing.{Standing}
-use Rattle.stream.proofs.AfterCalls.{known}
 use Rattle.stream.proofs.Reaching.{standing-given}
 use Rattle.stream.proofs.GoesOn.{step-goes-on}
 use Rattle.stream.proofs.DrivingLaws.{How, goes, past, blames, Drove, offer-sticks, drove-offer, drove-all, drove-begin}
@@ -42,7 +42,7 @@ module _ {a opts : ℕ} (text : List ℕ) (d : Driven) (x : Drove a opts text d)
   live-verdict e n =
       by-finish (live-finish (d .stream) (x .stands .alphabet) (x .stands .options) (standing-given (x .stands)) e)
       (ap (judged a opts) (x .whole ∙ ap (λ (u : List ℕ). x .front ++ u) n ∙ append-nil (x .front))
-      ∙ judged-end a opts (x .front) (x .stands .reads) (x .stands .within))
+      ∙ judged-end a opts (x .front) (d .stream .state) (d .out) (x .stands .reads) (x .stands .within))
 
   sticks : {k : ℕ} → d .stream .status ≡ shut k → finishOf (d .stream) ≡ unmoved (d .stream) k (d .stream .state .taken)
   sticks e = refusal-sticks (d .stream) (standing-given (x .stands)) e .finish
@@ -50,16 +50,16 @@ module _ {a opts : ℕ} (text : List ℕ) (d : Driven) (x : Drove a opts text d)
   past-verdict : d .stream .status ≡ shut 2 → 0 < length (d .left) → d .stream .state .taken ≡ limit → verdictOf d ≡ judged a opts text
   past-verdict e l m =
       by-finish (sticks e)
-      (ap (judged a opts) (x .whole)
-      ∙ judged-past a opts (x .front) (x .stands .reads) (omega (arith, x .stands .taken)) (d .left) l
+      (ap (judged a opts) (x .whole ∙ ap (λ (u : List ℕ). x .front ++ u) (drop-cons (d .left) 0 0 l))
+      ∙ judged-past a opts (x .front) (getD (d .left) 0 0) (drop 1 (d .left)) (d .stream .state) (d .out) (x .stands .reads) (omega (arith, x .stands .taken))
       ∙ λ j. record { answer = 2; position = sym m j; good = d .out })
 
   blamed-verdict : {k : ℕ} → d .stream .status ≡ shut k → 0 < length (d .left) → d .stream .state .taken < limit
       → step a opts (d .stream .state) (getD (d .left) 0 0) ≡ refuses k → verdictOf d ≡ judged a opts text
-  blamed-verdict e l m f =
+  blamed-verdict {k} e l m f =
       by-finish (sticks e)
       (ap (judged a opts) (x .whole ∙ ap (λ (u : List ℕ). x .front ++ u) (drop-cons (d .left) 0 0 l))
-      ∙ judged-refused a opts (x .front) (x .stands .reads) (getD (d .left) 0 0) (omega (arith, x .stands .taken)) f (drop 1 (d .left)))
+      ∙ judged-refused a opts (x .front) (getD (d .left) 0 0) (drop 1 (d .left)) (d .stream .state) (d .out) k (x .stands .reads) f (omega (arith, x .stands .taken)))
 
   settled-verdict : Settled d → verdictOf d ≡ judged a opts text
   settled-verdict y = go (x .how) refl y
@@ -88,7 +88,7 @@ module _ {a opts : ℕ} (text : List ℕ) (d : Driven) (x : Drove a opts text d)
   settles : Settled d → Settles a opts text d
   settles y =
       let e : verdictOf d ≡ judged a opts text = settled-verdict y in
-      record { whole = e; promised = rw e (promised a (known a opts (x .stands .choice)) opts text); finished = zero-done }
+      record { whole = e; promised = rw e (promised a (allowed-alphabet a opts (x .stands .choice)) opts text); finished = zero-done }
 
 -- whatever the cutting and the rooms
 pub any-cutting : (a opts : ℕ) (text : List ℕ) → Below 256 text → (s : Stream) → startOf a opts ≡ started s → (os : List Offer)

@@ -11,10 +11,10 @@ use Rattle.reading.specs.Limit.{limit}
 use Rattle.reading.specs.Options.{lines, blank, nopad, anySpare, allowed}
 use Rattle.reading.specs.Reader.{State, wants, heldBits, ending}
 use Rattle.reading.proofs.Building.{Fits}
+use Rattle.reading.proofs.OptionLaws.{allowed-alphabet}
 use Rattle.reading.proofs.Refusals.{SpareLeft, Blame, foreign, misplaced, spare, late, blame, Ended, whole, short, ended, ends-spare, Refuser, refuser}
 use Rattle.stream.specs.Stream.{Status, live, shut, done, Stream}
 use Rattle.stream.specs.Given.{countsFit, padsFit, readable, spareLeft, refusable, statusFits, given}
-use Rattle.stream.proofs.AfterCalls.{known}
 use Rattle.stream.proofs.Standing.{Refusal, at-limit, at-byte, at-end, Stands}
 
 both : (p q : Bool) → p && q ≡ true → (p ≡ true) × (q ≡ true)
@@ -195,7 +195,7 @@ unfolding given
 given-says s e =
     let x = both (readable (s .alphabet) (s .options) (s .state)) _ e in
     let r : Readable (s .alphabet) (s .options) (s .state) = readable-says (s .alphabet) (s .options) (s .state) (x .0) in
-    record { readable = r; stands = status-says (s .alphabet) (s .options) (s .state) (known (s .alphabet) (s .options) (r .choice)) (s .status) (x .1) }
+    record { readable = r; stands = status-says (s .alphabet) (s .options) (s .state) (allowed-alphabet (s .alphabet) (s .options) (r .choice)) (s .status) (x .1) }
 
 pub given-holds : (s : Stream) → Sound s → given s ≡ true
 unfolding given

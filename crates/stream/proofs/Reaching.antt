@@ -13,6 +13,7 @@ use Rattle.reading.specs.Options.{allowed}
 use Rattle.reading.specs.Reader.{State, fresh, ending}
 use Rattle.reading.specs.Piece.{all, refused, Ran, stop, runPiece}
 use Rattle.reading.proofs.Building.{Leads, leads, led-fits}
+use Rattle.reading.proofs.OptionLaws.{allowed-alphabet}
 use Rattle.reading.proofs.Taking.{takes-all, refuses-one, refuses-at-limit}
 use Rattle.stream.specs.Stream.{Status, live, shut, done, Stream, started, freshStream, startOf}
 use Rattle.stream.specs.Given.{given}
@@ -20,7 +21,6 @@ use Rattle.stream.specs.Calls.{Called, moved, whyStatus, ran, stepOf, en
 use Rattle.stream.specs.Reached.{Calls, begun, stepped, closed, Reachable}
 use Rattle.stream.proofs.Order.{live-step, live-finish}
 use Rattle.stream.proofs.Standing.{Refusal, at-limit, at-byte, at-end, Stands, Standing, standing}
-use Rattle.stream.proofs.AfterCalls.{known}
 use Rattle.stream.proofs.GivenLaws.{Readable, Sound, given-says, given-holds}
 
 -- ---- what calls give passes the test
@@ -30,7 +30,7 @@ standing-sound {a} {opts} {t} {out} {s} x =
     record {
       readable =
           rw (x .alphabet, x .options)
-          (record { choice = x .choice; within = omega (arith, x .taken, x .within); fits = led-fits a (known a opts (x .choice)) opts t (x .reads) });
+          (record { choice = x .choice; within = omega (arith, x .taken, x .within); fits = led-fits a (allowed-alphabet a opts (x .choice)) opts t (x .reads) });
       stands = rw (x .alphabet, x .options) (x .stands);
     }
 
@@ -58,7 +58,7 @@ module _ (a opts : ℕ) (s : State) where
   live-reached : Readable a opts s → Reachable (at a opts s live)
   unfolding ran whyStatus
   live-reached r =
-      let h : a < 6 = known a opts (r .choice) in
+      let h : a < 6 = allowed-alphabet a opts (r .choice) in
       let x : Leads a opts s = leads a h opts (r .choice) s (r .fits) in
       let b : Calls a opts [] [] (freshStream a opts) = begun (starts a opts (r .choice)) in
       let e : stepOf (freshStream a opts) (x .text) (length (x .out)) .stream ≡ at a opts s live =

@@ -15,7 +15,7 @@ use Rattle.reading.specs.Limit.{limit}
 use Rattle.reading.specs.Options.{allowed}
 use Rattle.reading.specs.Reader.{State, refuses, Reading, going, fresh, step, ending, feedAll}
 use Rattle.reading.specs.Piece.{Why, all, refused, full, Ran, runPiece}
-use Rattle.reading.proofs.Judging.{feed-append}
+use Rattle.reading.proofs.Seen.{feed-append}
 use Rattle.reading.proofs.PieceLimit.{PieceFeeds, piece-feeds}
 use Rattle.stream.specs.Stream.{Status, live, shut, done, Stream, Start, declined, started, freshStream, startOf}
 use Rattle.stream.specs.Given.{given}
