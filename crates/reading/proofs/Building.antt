@@ -1,16 +1,16 @@
 -- The states that texts lead to: what such a state fits, and for each state that fits a text: its digits, then its pads, then bytes that are
 -- dropped. Assumes nothing.
-use Prim.Native.Nat.{ℕ, zero, suc, _+_, _-_, _*_, _%_, _^_, _<_, _≤_}
+use Prim.Native.Nat.{ℕ, zero, suc, _+_, _-_, _%_, _^_, _<_, _≤_}
 use mathlib.Core.Path.{_≡_, refl, sym, ap, ap₂, _∙_, subst}
-use mathlib.Core.Logic.{_⊎_, inl, inr}
-use mathlib.Core.Bool.{Bool, true, false, cond, not, _&&_, _||_, and-false}
+use mathlib.Core.Logic.{inl, inr}
+use mathlib.Core.Bool.{Bool, true, false, cond}
 use mathlib.Core.List.{List, [], _∷_, _++_, map, append-nil}
 use native.Mathlib.Omega.{arith}
-use lib.Dec.{T, ltb}
+use lib.Dec.{ltb}
 use lib.ListN.{length, length-append, length-map, length-replicate, replicate}
 use borrow.Author.Tests.{ltb-true, ltb-false}
 use Rattle.alphabet.specs.Bits.{Below}
-use Rattle.alphabet.specs.Digits.{bytesOf, leftOf}
+use Rattle.alphabet.specs.Digits.{bytesOf}
 use Rattle.alphabet.specs.Alphabet.{bits, group, tail, digit, pad}
 use Rattle.alphabet.proofs.Below.{below-append, below-replicate}
 use Rattle.alphabet.proofs.Edges.{digit-own}
@@ -18,7 +18,6 @@ use Rattle.alphabet.proofs.Shapes.{shape, shape-below}
 use Rattle.alphabet.proofs.Symbols.{digit-printable}
 use Rattle.alphabet.proofs.DigitLaws.{regrouped}
 use Rattle.alphabet.proofs.Leaving.{Leaving, leaving}
-use Rattle.reading.specs.Limit.{limit}
 use Rattle.reading.specs.Options.{lines, blank, anySpare, anyCase, allowed}
 use Rattle.reading.specs.Cleaning.{dropped, kept, turned}
 use Rattle.reading.specs.Reader.{State, Reading, going, fresh, wants, heldBits, feedAll}

@@ -1,15 +1,14 @@
 -- One run over a piece: a text that is read is taken whole, with room for its bytes; a byte that is refused, or stands at the limit, stops it at once.
 -- Assumes nothing.
-use Prim.Native.Nat.{ℕ, zero, suc, _+_, _-_, _<_, _≤_}
-use mathlib.Core.Path.{_≡_, refl, sym, ap, _∙_}
-use mathlib.Core.List.{List, [], _∷_, _++_}
+use Prim.Native.Nat.{ℕ, _+_, _-_, _<_, _≤_}
+use mathlib.Core.Path.{_≡_, refl, sym, _∙_}
+use mathlib.Core.List.{List, [], _∷_}
 use native.Mathlib.Omega.{arith}
-use lib.ListN.{length, take}
-use borrow.Author.Tests.{lt-ltb, le-ltb}
+use lib.ListN.{length}
+use borrow.Author.Tests.{le-ltb}
 use Rattle.reading.specs.Limit.{limit}
-use Rattle.reading.specs.Reader.{State, refuses, Reading, going, stopped, step, feedAll}
+use Rattle.reading.specs.Reader.{State, refuses, going, stopped, step, feedAll}
 use Rattle.reading.specs.Piece.{Why, all, refused, full, Ran, stop, onStep, run, whyAtLimit, atLimitRan, runPiece}
-use Rattle.reading.proofs.Positions.{given}
 use Rattle.reading.proofs.PieceLaws.{run-feeds, all-feeds, refused-feeds, room-enough}
 
 module _ (a opts : ℕ) (s : State) where

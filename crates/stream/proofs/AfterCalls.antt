@@ -1,15 +1,11 @@
 -- T1: whatever calls were made from a start, the state is the state of the text taken, and the bytes handed out so far are exactly what all
 -- accepted continuations of it share. Assumes nothing.
 use Prim.Native.Nat.{ℕ, _<_}
-use mathlib.Core.Path.{_≡_, refl, sym, _∙_}
-use mathlib.Core.Bool.{Bool, true, false, not, _&&_}
+use mathlib.Core.Path.{_≡_, sym, _∙_}
 use mathlib.Core.List.{List, []}
-use lib.Dec.{ltb}
-use borrow.Author.Tests.{ltb-true}
 use Rattle.alphabet.specs.Alphabet.{bits}
 use Rattle.alphabet.specs.Digits.{bytesOf}
-use Rattle.reading.specs.Options.{anyCase, allowed}
-use Rattle.reading.specs.Reader.{Reading, going, fresh, feedAll}
+use Rattle.reading.specs.Reader.{going, fresh, feedAll}
 use Rattle.reading.proofs.Seen.{Seen}
 use Rattle.reading.proofs.ReaderLaws.{seen}
 use Rattle.reading.proofs.Continuations.{read-continued}

@@ -1,19 +1,18 @@
 -- T2: for any text, any cutting and any rooms, once every byte was taken or one was refused, a finish with the bytes joined gives the verdict on the
 -- whole text, with all that is promised of it. T3: where each call offers a byte and has room for one, it comes to that. Assumes nothing.
-use Prim.Native.Nat.{ℕ, zero, suc, _-_, _<_, _≤_}
-use mathlib.Core.Path.{_≡_, refl, sym, ap, _∙_, subst}
+use Prim.Native.Nat.{ℕ, suc, _<_, _≤_}
+use mathlib.Core.Path.{_≡_, refl, sym, ap, _∙_}
 use mathlib.Core.Logic.{_⊎_, inl, inr}
 use mathlib.Core.Bool.{Bool, true, false, cond}
 use mathlib.Core.List.{List, [], _∷_, _++_, append-nil}
 use native.Mathlib.Omega.{arith}
-use lib.Dec.{eqb, ltb}
+use lib.Dec.{ltb}
 use lib.ListN.{length, take, drop, getD, length-take, length-drop}
 use lib.Seq.{drop-cons}
 use borrow.Author.Tests.{ltb-true, ltb-false, eq-eqb}
 use Rattle.alphabet.specs.Bits.{Below}
 use Rattle.reading.specs.Limit.{limit}
-use Rattle.reading.specs.Reader.{refuses, step, ending, judged, Verdict}
-use Rattle.reading.specs.Promises.{Promised}
+use Rattle.reading.specs.Reader.{refuses, step, ending, judged}
 use Rattle.reading.proofs.Meaning.{promised}
 use Rattle.reading.proofs.OptionLaws.{allowed-alphabet}
 use Rattle.reading.proofs.Positions.{refuses-range}
@@ -21,9 +20,8 @@ use Rattle.reading.proofs.Joined.{judged-end, judged-past, judged-refused}
 use Rattle.stream.specs.Stream.{Status, live, shut, done, Stream, started, startOf}
 use Rattle.stream.specs.Calls.{Called, unmoved, stepOf, endStatus, closes, finishOf}
 use Rattle.stream.specs.Driving.{Offer, Driven, begin, told, offer, drive, Offering, Refused, Settled}
-use Rattle.stream.specs.Promises.{verdictOf, Settles, GoesOn}
+use Rattle.stream.specs.Promises.{finishVerdict, Settles, GoesOn}
 use Rattle.stream.proofs.Order.{refusal-sticks, live-finish}
-use Rattle.stream.proofs.Standing.{Standing}
 use Rattle.stream.proofs.Reaching.{standing-given}
 use Rattle.stream.proofs.GoesOn.{step-goes-on}
 use Rattle.stream.proofs.DrivingLaws.{How, goes, past, blames, Drove, offer-sticks, drove-offer, drove-all, drove-begin}
@@ -34,10 +32,10 @@ live-shut e = let z : _≡_ {A = ℕ} 0 1 = cc in omega arith
 module _ {a opts : ℕ} (text : List ℕ) (d : Driven) (x : Drove a opts text d) where
   -- a finish writes nothing, so the verdict is what it tells of the bytes handed out
   by-finish : {s : Stream} {k i : ℕ} → finishOf (d .stream) ≡ record { stream = s; answer = k; position = i; took = 0; wrote = [] }
-      → judged a opts text ≡ record { answer = k; position = i; good = d .out } → verdictOf d ≡ judged a opts text
+      → judged a opts text ≡ record { answer = k; position = i; good = d .out } → finishVerdict d ≡ judged a opts text
   by-finish e f = rw (e, append-nil) (sym f)
 
-  live-verdict : d .stream .status ≡ live → d .left ≡ [] → verdictOf d ≡ judged a opts text
+  live-verdict : d .stream .status ≡ live → d .left ≡ [] → finishVerdict d ≡ judged a opts text
   unfolding closes
   live-verdict e n =
       by-finish (live-finish (d .stream) (x .stands .alphabet) (x .stands .options) (standing-given (x .stands)) e)
@@ -47,7 +45,7 @@ module _ {a opts : ℕ} (text : List ℕ) (d : Driven) (x : Drove a opts text d)
   sticks : {k : ℕ} → d .stream .status ≡ shut k → finishOf (d .stream) ≡ unmoved (d .stream) k (d .stream .state .taken)
   sticks e = refusal-sticks (d .stream) (standing-given (x .stands)) e .finish
 
-  past-verdict : d .stream .status ≡ shut 2 → 0 < length (d .left) → d .stream .state .taken ≡ limit → verdictOf d ≡ judged a opts text
+  past-verdict : d .stream .status ≡ shut 2 → 0 < length (d .left) → d .stream .state .taken ≡ limit → finishVerdict d ≡ judged a opts text
   past-verdict e l m =
       by-finish (sticks e)
       (ap (judged a opts) (x .whole ∙ ap (λ (u : List ℕ). x .front ++ u) (drop-cons (d .left) 0 0 l))
@@ -55,16 +53,16 @@ module _ {a opts : ℕ} (text : List ℕ) (d : Driven) (x : Drove a opts text d)
       ∙ λ j. record { answer = 2; position = sym m j; good = d .out })
 
   blamed-verdict : {k : ℕ} → d .stream .status ≡ shut k → 0 < length (d .left) → d .stream .state .taken < limit
-      → step a opts (d .stream .state) (getD (d .left) 0 0) ≡ refuses k → verdictOf d ≡ judged a opts text
+      → step a opts (d .stream .state) (getD (d .left) 0 0) ≡ refuses k → finishVerdict d ≡ judged a opts text
   blamed-verdict {k} e l m f =
       by-finish (sticks e)
       (ap (judged a opts) (x .whole ∙ ap (λ (u : List ℕ). x .front ++ u) (drop-cons (d .left) 0 0 l))
       ∙ judged-refused a opts (x .front) (getD (d .left) 0 0) (drop 1 (d .left)) (d .stream .state) (d .out) k (x .stands .reads) f (omega (arith, x .stands .taken)))
 
-  settled-verdict : Settled d → verdictOf d ≡ judged a opts text
+  settled-verdict : Settled d → finishVerdict d ≡ judged a opts text
   settled-verdict y = go (x .how) refl y
     where
-      go : {u : Status} → How a opts (d .left) (d .stream .state) u → d .stream .status ≡ u → Settled d → verdictOf d ≡ judged a opts text
+      go : {u : Status} → How a opts (d .left) (d .stream .state) u → d .stream .status ≡ u → Settled d → finishVerdict d ≡ judged a opts text
       go goes e (inl n) = live-verdict e n
       go goes e (inr r) = absurd (live-shut (sym e ∙ r .is))
       go (past l m) e y = past-verdict e l m
@@ -87,7 +85,7 @@ module _ {a opts : ℕ} (text : List ℕ) (d : Driven) (x : Drove a opts text d)
 
   settles : Settled d → Settles a opts text d
   settles y =
-      let e : verdictOf d ≡ judged a opts text = settled-verdict y in
+      let e : finishVerdict d ≡ judged a opts text = settled-verdict y in
       record { whole = e; promised = rw e (promised a (allowed-alphabet a opts (x .stands .choice)) opts text); finished = zero-done }
 
 -- whatever the cutting and the rooms

@@ -1,6 +1,6 @@
 -- Where a text offered in pieces stands: what was taken is a front of it, what is left is the rest, and a refusal is of the first byte left.
 -- Assumes nothing.
-use Prim.Native.Nat.{ℕ, _+_, _-_, _<_, _≤_}
+use Prim.Native.Nat.{ℕ, _<_, _≤_}
 use mathlib.Core.Path.{_≡_, refl, sym, ap, _∙_, subst, subst₂}
 use mathlib.Core.Logic.{_⊎_, inl, inr}
 use mathlib.Core.List.{List, [], _∷_, _++_, append-assoc, append-nil}
@@ -12,7 +12,7 @@ use Rattle.alphabet.specs.Bits.{Below}
 use Rattle.alphabet.proofs.Below.{below-back, below-take}
 use Rattle.reading.specs.Limit.{limit}
 use Rattle.reading.specs.Reader.{State, refuses, step}
-use Rattle.stream.specs.Stream.{Status, live, shut, done, Stream, started, startOf}
+use Rattle.stream.specs.Stream.{Status, live, shut, Stream, started, startOf}
 use Rattle.stream.specs.Calls.{Called, unmoved, stepOf}
 use Rattle.stream.specs.Reached.{begun}
 use Rattle.stream.specs.Driving.{Offer, Driven, begin, told, offer, drive}

@@ -1,18 +1,17 @@
 -- What the test of a state says: some text leads to the state, and its status stands to it as a refusal or an end does. Assumes nothing.
 use Prim.Native.Nat.{ℕ, _+_, _^_, _<_, _≤_}
-use mathlib.Core.Path.{_≡_, refl, sym, ap, _∙_, subst}
-use mathlib.Core.Logic.{_↔_}
+use mathlib.Core.Path.{_≡_, refl, sym, _∙_, subst}
 use mathlib.Core.Bool.{Bool, true, false, cond, not, _&&_, _||_, or-true, or-false}
 use native.Mathlib.Omega.{arith}
 use lib.Dec.{T, eqb, ltb, leb}
-use borrow.Author.Tests.{ltb-true, ltb-false, leb-true, eqb-true, eqb-false, lt-ltb, le-ltb, le-leb, eq-eqb, ne-eqb, not-true}
+use borrow.Author.Tests.{ltb-true, ltb-false, leb-true, eqb-true, eqb-false, lt-ltb, le-leb, eq-eqb, ne-eqb, not-true}
 use Rattle.alphabet.specs.Alphabet.{padded}
 use Rattle.reading.specs.Limit.{limit}
 use Rattle.reading.specs.Options.{lines, blank, nopad, anySpare, allowed}
 use Rattle.reading.specs.Reader.{State, wants, heldBits, ending}
 use Rattle.reading.proofs.Building.{Fits}
 use Rattle.reading.proofs.OptionLaws.{allowed-alphabet}
-use Rattle.reading.proofs.Refusals.{SpareLeft, Blame, foreign, misplaced, spare, late, blame, Ended, whole, short, ended, ends-spare, Refuser, refuser}
+use Rattle.reading.proofs.Refusals.{SpareLeft, Blame, foreign, misplaced, spare, late, blame, Ended, whole, short, ended, ends-spare, refuser}
 use Rattle.stream.specs.Stream.{Status, live, shut, done, Stream}
 use Rattle.stream.specs.Given.{countsFit, padsFit, readable, spareLeft, refusable, statusFits, given}
 use Rattle.stream.proofs.Standing.{Refusal, at-limit, at-byte, at-end, Stands}

@@ -1,26 +1,26 @@
 -- T3: a step stops only when the piece is taken, a byte is refused or the room is full for the byte that needs it, and with room for a byte and a
 -- byte offered it takes one or refuses. Assumes nothing.
-use Prim.Native.Nat.{ℕ, zero, suc, _+_, _<_, _≤_}
-use mathlib.Core.Path.{_≡_, refl, sym, ap, _∙_, subst}
+use Prim.Native.Nat.{ℕ, _<_}
+use mathlib.Core.Path.{_≡_, refl, sym, ap, _∙_}
 use mathlib.Core.Logic.{_⊎_, inl, inr}
 use mathlib.Core.Bool.{Bool, true, false}
-use mathlib.Core.List.{List, [], _∷_, _++_}
+use mathlib.Core.List.{List, []}
 use native.Mathlib.Omega.{arith}
 use lib.Dec.{eqb, ltb}
 use lib.ListN.{length, take, getD}
 use borrow.Author.Tests.{eqb-true, eqb-false, ltb-true, ltb-false}
 use Rattle.reading.specs.Limit.{limit}
-use Rattle.reading.specs.Reader.{State, refuses, going, step, feedAll}
-use Rattle.reading.specs.Piece.{Why, all, refused, full, Ran, runPiece}
+use Rattle.reading.specs.Reader.{refuses, going, step, feedAll}
+use Rattle.reading.specs.Piece.{Why, all, refused, full, Ran}
 use Rattle.reading.proofs.PieceLaws.{NeedsRoom}
 use Rattle.reading.proofs.PieceLimit.{PieceFeeds, piece-feeds}
-use Rattle.stream.specs.Stream.{Status, live, shut, Stream}
+use Rattle.stream.specs.Stream.{live, Stream}
 use Rattle.stream.specs.Given.{given}
 use Rattle.stream.specs.Calls.{Called, whyStatus, whyAnswer, ran, stepOf}
 use Rattle.stream.specs.Driving.{Refused}
 use Rattle.stream.specs.Promises.{TookAll, RefusedNext, NextNeedsRoom, GoesOn}
 use Rattle.stream.proofs.Order.{live-step}
-use Rattle.stream.proofs.GivenLaws.{Readable, Sound, given-says}
+use Rattle.stream.proofs.GivenLaws.{Sound, given-says}
 
 -- the same of any call c
 abbrev Stops : ℕ → ℕ → List ℕ → ℕ → Called → Type 0

@@ -6,3 +6,4 @@ pub mod Reaching
 pub mod GoesOn
 pub mod DrivingLaws
 pub mod AnyCutting
+pub mod NineExactly

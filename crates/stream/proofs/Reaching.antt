@@ -1,23 +1,22 @@
--- T5: answer 9 is given exactly when no sequence of calls from a start gives the state. For each state that passes the test a text is built that
--- leads to it, in one step; a refusal takes one byte more or a finish, and the end a finish. Assumes nothing.
+-- T5: the test passes exactly the states that calls from a start give. For each that passes, a text is built that leads to it in one step; a refusal
+-- takes one byte more or a finish, and the end a finish. Assumes nothing.
 use Prim.Native.Nat.{ℕ, _<_}
-use mathlib.Core.Path.{_≡_, refl, sym, ap, _∙_, subst}
+use mathlib.Core.Path.{_≡_, refl, ap, _∙_, subst}
 use mathlib.Core.Logic.{_↔_}
-use mathlib.Core.Bool.{Bool, true, false}
-use mathlib.Core.List.{List, [], _∷_, _++_, append-nil}
+use mathlib.Core.Bool.{true}
+use mathlib.Core.List.{List, [], _∷_}
 use native.Mathlib.Omega.{arith}
-use lib.ListN.{length, take}
-use borrow.Author.Tests.{eq-eqb, ne-eqb}
-use Rattle.reading.specs.Limit.{limit}
+use lib.ListN.{length}
+use borrow.Author.Tests.{ne-eqb}
 use Rattle.reading.specs.Options.{allowed}
 use Rattle.reading.specs.Reader.{State, fresh, ending}
-use Rattle.reading.specs.Piece.{all, refused, Ran, stop, runPiece}
+use Rattle.reading.specs.Piece.{refused, stop, runPiece}
 use Rattle.reading.proofs.Building.{Leads, leads, led-fits}
 use Rattle.reading.proofs.OptionLaws.{allowed-alphabet}
 use Rattle.reading.proofs.Taking.{takes-all, refuses-one, refuses-at-limit}
 use Rattle.stream.specs.Stream.{Status, live, shut, done, Stream, started, freshStream, startOf}
 use Rattle.stream.specs.Given.{given}
-use Rattle.stream.specs.Calls.{Called, moved, whyStatus, ran, stepOf, endStatus, closes, finishOf}
+use Rattle.stream.specs.Calls.{Called, whyStatus, ran, stepOf, endStatus, closes, finishOf}
 use Rattle.stream.specs.Reached.{Calls, begun, stepped, closed, Reachable}
 use Rattle.stream.proofs.Order.{live-step, live-finish}
 use Rattle.stream.proofs.Standing.{Refusal, at-limit, at-byte, at-end, Stands, Standing, standing}
@@ -102,5 +101,6 @@ given-reached s e =
     let x : Sound s = given-says s e in
     status-reached (s .alphabet) (s .options) (s .state) (live-reached (s .alphabet) (s .options) (s .state) (x .readable)) (s .status) (x .stands)
 
-pub nine-exactly : (s : Stream) → (given s ≡ true) ↔ Reachable s
-nine-exactly s = (given-reached s, λ r. calls-given (r .calls))
+-- the test passes exactly the states that calls give
+pub given-exactly : (s : Stream) → (given s ≡ true) ↔ Reachable s
+given-exactly s = (given-reached s, λ r. calls-given (r .calls))

@@ -1,6 +1,6 @@
 -- Where a stream stands after any calls: its state is that of the text taken, and its status says how that text can be refused, or that it is whole.
 -- Assumes nothing.
-use Prim.Native.Nat.{ℕ, zero, suc, _+_, _<_, _≤_}
+use Prim.Native.Nat.{ℕ, zero, suc, _<_, _≤_}
 use mathlib.Core.Path.{_≡_, refl, sym, ap, _∙_, subst}
 use mathlib.Core.Bool.{Bool, true, false, cond}
 use mathlib.Core.List.{List, [], _∷_, _++_, append-nil}
@@ -14,14 +14,13 @@ use Rattle.alphabet.proofs.Below.{below-append, below-take}
 use Rattle.reading.specs.Limit.{limit}
 use Rattle.reading.specs.Options.{allowed}
 use Rattle.reading.specs.Reader.{State, refuses, Reading, going, fresh, step, ending, feedAll}
-use Rattle.reading.specs.Piece.{Why, all, refused, full, Ran, runPiece}
+use Rattle.reading.specs.Piece.{Why, all, refused, full, Ran}
 use Rattle.reading.proofs.Seen.{feed-append}
 use Rattle.reading.proofs.PieceLimit.{PieceFeeds, piece-feeds}
-use Rattle.stream.specs.Stream.{Status, live, shut, done, Stream, Start, declined, started, freshStream, startOf}
+use Rattle.stream.specs.Stream.{Status, live, shut, done, Stream, declined, started, freshStream, startOf}
 use Rattle.stream.specs.Given.{given}
 use Rattle.stream.specs.Calls.{Called, unmoved, whyStatus, ran, stepOf, endStatus, closes, finishOf}
 use Rattle.stream.specs.Reached.{Calls, begun, stepped, closed}
-use Rattle.stream.specs.Promises.{Sticks}
 use Rattle.stream.proofs.Order.{nine-sticks, ten-sticks, refusal-sticks, live-step, live-finish}
 
 -- what is refused with k after what the state has taken: the byte at the limit, a byte before it, or the text's end

@@ -1,7 +1,7 @@
 -- 01, "Streams": answer 9 is given exactly when no sequence of calls from a start gives that state. The test that a call computes.
 -- Assumes nothing.
 use Prim.Native.Nat.{ℕ, _+_, _^_}
-use mathlib.Core.Bool.{Bool, true, false, cond, not, _&&_, _||_}
+use mathlib.Core.Bool.{Bool, true, cond, not, _&&_, _||_}
 use lib.Dec.{eqb, ltb, leb}
 use Rattle.alphabet.specs.Alphabet.{padded}
 use Rattle.reading.specs.Limit.{limit}

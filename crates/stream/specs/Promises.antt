@@ -1,23 +1,28 @@
 -- 01, "Streams" and "How much a contract has to say": what is shown of a reader's stream, whatever calls were made, against the cleaning and the
 -- continuations. Assumes nothing.
-use Prim.Native.Nat.{ℕ, _+_, _<_, _≤_}
+use Prim.Native.Nat.{ℕ, _<_, _≤_}
 use mathlib.Core.Path.{_≡_}
-use mathlib.Core.Logic.{_⊎_}
-use mathlib.Core.List.{List, [], _∷_, _++_}
-use lib.ListN.{length, take, getD}
-use Rattle.alphabet.specs.Bits.{Below}
+use mathlib.Core.Logic.{_⊎_, _↔_}
+use mathlib.Core.List.{List, [], _++_}
+use lib.ListN.{length, getD}
 use Rattle.reading.specs.Limit.{limit}
 use Rattle.reading.specs.Continuation.{Continued, LongestShared}
 use Rattle.reading.specs.Reader.{State, gives, refuses, going, fresh, step, feedAll, Verdict, judged}
 use Rattle.reading.specs.Promises.{Promised}
 use Rattle.stream.specs.Stream.{live, shut, done, Stream}
 use Rattle.stream.specs.Calls.{Called, unmoved, stepOf, finishOf}
+use Rattle.stream.specs.Reached.{Reachable}
 use Rattle.stream.specs.Driving.{Driven, Refused}
 
 -- every call on the stream gives this answer at this position, takes and writes nothing and returns it unchanged
 pub record Sticks (s : Stream) (k i : ℕ) : Type 0 where
   pub step : (piece : List ℕ) (room : ℕ) → stepOf s piece room ≡ unmoved s k i
   pub finish : finishOf s ≡ unmoved s k i
+
+-- answer 9 exactly when no sequence of calls from a start gives the state, whatever is offered and whatever the room
+pub record NineExactly (s : Stream) : Type 0 where
+  pub step : (piece : List ℕ) (room : ℕ) → (stepOf s piece room .answer ≡ 9) ↔ (Reachable s → ⊥)
+  pub finish : (finishOf s .answer ≡ 9) ↔ (Reachable s → ⊥)
 
 -- at each moment: the state is that of the text taken, and the bytes handed out are exactly what all its accepted continuations share
 pub record AfterCalls (a opts : ℕ) (t out : List ℕ) (s : Stream) : Type 0 where
@@ -32,14 +37,14 @@ pub record AfterCalls (a opts : ℕ) (t out : List ℕ) (s : Stream) : Type 0 wh
 -- ---- a text offered in pieces
 
 -- what a finish after all this tells, with the bytes joined
-abbrev pub verdictOf : Driven → Verdict
-verdictOf d = record { answer = finishOf (d .stream) .answer; position = finishOf (d .stream) .position; good = d .out ++ finishOf (d .stream) .wrote }
+abbrev pub finishVerdict : Driven → Verdict
+finishVerdict d = record { answer = finishOf (d .stream) .answer; position = finishOf (d .stream) .position; good = d .out ++ finishOf (d .stream) .wrote }
 
 -- joined bytes, answer and position are those of the whole text, with all that is promised of them; and after answer 0 the stream is finished
 pub record Settles (a opts : ℕ) (text : List ℕ) (d : Driven) : Type 0 where
-  pub whole : verdictOf d ≡ judged a opts text
-  pub promised : Promised a opts text (verdictOf d)
-  pub finished : verdictOf d .answer ≡ 0 → finishOf (d .stream) .stream .status ≡ done
+  pub whole : finishVerdict d ≡ judged a opts text
+  pub promised : Promised a opts text (finishVerdict d)
+  pub finished : finishVerdict d .answer ≡ 0 → finishOf (d .stream) .stream .status ≡ done
 
 -- ---- one step
 
