@@ -24,10 +24,8 @@ use Rattle.stream.specs.Promises.{finishVerdict, Settles, GoesOn}
 use Rattle.stream.proofs.Order.{refusal-sticks, live-finish}
 use Rattle.stream.proofs.Reaching.{standing-given}
 use Rattle.stream.proofs.GoesOn.{step-goes-on}
+use Rattle.stream.proofs.Again.{live-shut, zero-finishes}
 use Rattle.stream.proofs.DrivingLaws.{How, goes, past, blames, Drove, offer-sticks, drove-offer, drove-all, drove-begin}
-
-pub live-shut : {k : ℕ} → live ≡ shut k → ⊥
-live-shut e = let z : _≡_ {A = ℕ} 0 1 = cc in omega arith
 
 module _ {a opts : ℕ} (text : List ℕ) (d : Driven) (x : Drove a opts text d) where
   -- a finish writes nothing, so the verdict is what it tells of the bytes handed out
@@ -68,25 +66,10 @@ module _ {a opts : ℕ} (text : List ℕ) (d : Driven) (x : Drove a opts text d)
       go (past l m) e y = past-verdict e l m
       go (blames l m f) e y = blamed-verdict e l m f
 
-  -- answer 0 of a finish finishes the stream
-  zero-done : finishOf (d .stream) .answer ≡ 0 → finishOf (d .stream) .stream .status ≡ done
-  unfolding closes endStatus
-  zero-done z = go (x .how) refl
-    where
-      go : {u : Status} → How a opts (d .left) (d .stream .state) u → d .stream .status ≡ u → finishOf (d .stream) .stream .status ≡ done
-      go goes e =
-          let c : finishOf (d .stream) ≡ closes (d .stream) (ending a opts (d .stream .state)) =
-          live-finish (d .stream) (x .stands .alphabet) (x .stands .options) (standing-given (x .stands)) e in
-          ap (λ (f : Called). f .stream .status) c
-          ∙ ap (λ (y : Bool). cond y done (shut (ending a opts (d .stream .state)))) (eq-eqb (ending a opts (d .stream .state)) 0 (ap (λ (f : Called). f .answer) (sym c) ∙ z))
-      go (past l m) e = absurd (omega (arith, ap (λ (f : Called). f .answer) (sym (sticks e)) ∙ z))
-      go (blames {k = k} l m f) e =
-          absurd (omega (arith, refuses-range a opts (d .stream .state) (getD (d .left) 0 0) k f, ap (λ (f : Called). f .answer) (sym (sticks e)) ∙ z))
-
   settles : Settled d → Settles a opts text d
   settles y =
       let e : finishVerdict d ≡ judged a opts text = settled-verdict y in
-      record { whole = e; promised = rw e (promised a (allowed-alphabet a opts (x .stands .choice)) opts text); finished = zero-done }
+      record { whole = e; promised = rw e (promised a (allowed-alphabet a opts (x .stands .choice)) opts text); finished = zero-finishes (d .stream) (standing-given (x .stands)) }
 
 -- whatever the cutting and the rooms
 pub any-cutting : (a opts : ℕ) (text : List ℕ) → Below 256 text → (s : Stream) → startOf a opts ≡ started s → (os : List Offer)

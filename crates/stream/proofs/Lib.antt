@@ -4,6 +4,7 @@ pub mod AfterCalls
 pub mod GivenLaws
 pub mod Reaching
 pub mod GoesOn
+pub mod NineExactly
+pub mod Again
 pub mod DrivingLaws
 pub mod AnyCutting
-pub mod NineExactly

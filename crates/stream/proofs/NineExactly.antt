@@ -1,5 +1,4 @@
--- T5, of the answers: 9 is given exactly on the states that no calls give. T6: what a refusal or a finish leaves is given again, unchanged.
--- Assumes nothing.
+-- T5, of the answers: 9 is given exactly on the states that no calls give. Assumes nothing.
 use Prim.Native.Nat.{ℕ, _<_, _≤_}
 use mathlib.Core.Path.{_≡_, refl, sym, ap, _∙_, subst}
 use mathlib.Core.Logic.{_⊎_, inl, inr, ⊎-elim, _↔_}
@@ -27,6 +26,11 @@ ended-small : {a opts : ℕ} {s : State} {k : ℕ} → Ended a opts s k → k �
 ended-small whole = omega arith
 ended-small (spare x n) = omega arith
 ended-small short = omega arith
+
+pub refusal-some : {a opts : ℕ} {s : State} {k : ℕ} → Refusal a opts s k → 0 < k
+refusal-some (at-limit e) = omega arith
+refusal-some {a} {opts} {s} (at-byte {k = k} l c b e) = omega (arith, refuses-range a opts s c k e)
+refusal-some (at-end e l) = l
 
 refusal-small : {a opts : ℕ} {s : State} {k : ℕ} → Refusal a opts s k → k ≤ 8
 refusal-small (at-limit e) = omega arith
@@ -75,12 +79,3 @@ nine-exactly s =
         go : (x : Bool) → given s ≡ x → given s ≡ false
         go true e = absurd (n (given-reached s e))
         go false e = e
-
--- ---- what is left is given again
-
-module _ (s : Stream) (g : given s ≡ true) where
-  pub step-given : (piece : List ℕ) → Below 256 piece → (room : ℕ) → given (stepOf s piece room .stream) ≡ true
-  step-given piece b room = calls-given (stepped (given-reached s g .calls) piece b room)
-
-  pub finish-given : given (finishOf s .stream) ≡ true
-  finish-given = calls-given (closed (given-reached s g .calls))

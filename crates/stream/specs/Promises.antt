@@ -19,6 +19,11 @@ pub record Sticks (s : Stream) (k i : ℕ) : Type 0 where
   pub step : (piece : List ℕ) (room : ℕ) → stepOf s piece room ≡ unmoved s k i
   pub finish : finishOf s ≡ unmoved s k i
 
+-- what a call leaves: an earlier refusal is given again at the same position, and after a finish that answered 0 the stream is finished
+pub record GivenAgain (c : Called) : Type 0 where
+  pub refused : {k : ℕ} → c .stream .status ≡ shut k → Sticks (c .stream) (c .answer) (c .position)
+  pub finished : c .stream .status ≡ done → Sticks (c .stream) 10 0
+
 -- answer 9 exactly when no sequence of calls from a start gives the state, whatever is offered and whatever the room
 pub record NineExactly (s : Stream) : Type 0 where
   pub step : (piece : List ℕ) (room : ℕ) → (stepOf s piece room .answer ≡ 9) ↔ (Reachable s → ⊥)
