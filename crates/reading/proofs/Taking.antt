@@ -2,14 +2,26 @@
 -- Assumes nothing.
 use Prim.Native.Nat.{ℕ, _+_, _-_, _<_, _≤_}
 use mathlib.Core.Path.{_≡_, refl, sym, _∙_}
-use mathlib.Core.List.{List, [], _∷_}
+use mathlib.Core.List.{List, [], _∷_, _++_}
 use native.Mathlib.Omega.{arith}
 use lib.ListN.{length}
 use borrow.Author.Tests.{le-ltb}
 use Rattle.reading.specs.Limit.{limit}
-use Rattle.reading.specs.Reader.{State, refuses, going, stopped, step, feedAll}
+use Rattle.reading.specs.Reader.{State, gives, refuses, Reading, going, stopped, step, follow, feed, feedAll}
 use Rattle.reading.specs.Piece.{Why, all, refused, full, Ran, stop, onStep, run, whyAtLimit, atLimitRan, runPiece}
 use Rattle.reading.proofs.PieceLaws.{run-feeds, all-feeds, refused-feeds, room-enough}
+
+-- ---- no byte, and one that completes a byte
+
+pub reads-none : (a opts : ℕ) (r : Reading) → feedAll a opts r [] ≡ r
+unfolding feedAll
+reads-none a opts r = refl
+
+pub reads-one : (a opts : ℕ) (s n : State) (out : List ℕ) (c x : ℕ) → step a opts s c ≡ gives x n → feedAll a opts (going s out) (c ∷ []) ≡ going n (out ++ x ∷ [])
+unfolding feedAll feed follow
+reads-one a opts s n out c x e = rw e
+
+-- ---- one run
 
 module _ (a opts : ℕ) (s : State) where
   module _ (text : List ℕ) {n : State} {out : List ℕ} (e : feedAll a opts (going s []) text ≡ going n out) where

@@ -14,6 +14,7 @@ use Rattle.reading.specs.Reader.{refuses, going, step, feedAll}
 use Rattle.reading.specs.Piece.{Why, all, refused, full, Ran}
 use Rattle.reading.proofs.PieceLaws.{NeedsRoom}
 use Rattle.reading.proofs.PieceLimit.{PieceFeeds, piece-feeds}
+use Rattle.reading.proofs.Taking.{reads-none}
 use Rattle.stream.specs.Stream.{live, Stream}
 use Rattle.stream.specs.Given.{given}
 use Rattle.stream.specs.Calls.{Called, whyStatus, whyAnswer, ran, stepOf}
@@ -63,9 +64,11 @@ module _ (s : Stream) (piece : List ℕ) (room : ℕ) (r : Ran) (f : PieceFeeds 
 
   -- what takes no byte writes none
   none-written : r .took ≡ 0 → length (r .wrote) ≡ 0
-  unfolding feedAll
   none-written e =
-      let g : going (s .state) [] ≡ going (r .state) (r .wrote) = ap (λ (n : ℕ). feedAll (s .alphabet) (s .options) (going (s .state) []) (take n piece)) (sym e) ∙ f .so-far in
+      let g : going (s .state) [] ≡ going (r .state) (r .wrote) =
+      sym (reads-none (s .alphabet) (s .options) (going (s .state) []))
+      ∙ ap (λ (n : ℕ). feedAll (s .alphabet) (s .options) (going (s .state) []) (take n piece)) (sym e)
+      ∙ f .so-far in
       let w : r .wrote ≡ [] = cc in
       ap length w
 

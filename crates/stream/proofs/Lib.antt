@@ -8,3 +8,4 @@ pub mod NineExactly
 pub mod Again
 pub mod DrivingLaws
 pub mod AnyCutting
+pub mod RefusesExactly

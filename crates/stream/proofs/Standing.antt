@@ -17,6 +17,7 @@ use Rattle.reading.specs.Reader.{State, refuses, Reading, going, fresh, step, e
 use Rattle.reading.specs.Piece.{Why, all, refused, full, Ran}
 use Rattle.reading.proofs.Seen.{feed-append}
 use Rattle.reading.proofs.PieceLimit.{PieceFeeds, piece-feeds}
+use Rattle.reading.proofs.Taking.{reads-none}
 use Rattle.stream.specs.Stream.{Status, live, shut, done, Stream, declined, started, freshStream, startOf}
 use Rattle.stream.specs.Given.{given}
 use Rattle.stream.specs.Calls.{Called, unmoved, whyStatus, ran, stepOf, endStatus, closes, finishOf}
@@ -60,11 +61,10 @@ start-is a opts s e = go (allowed a opts) refl e
     go false f e = absurd (let z : _≡_ {A = ℕ} 0 1 = cc in omega arith)
 
 start-stands : (a opts : ℕ) (s : Stream) → startOf a opts ≡ started s → Standing a opts [] [] s
-unfolding feedAll
 start-stands a opts s e =
     let x = start-is a opts s e in
     subst (Standing a opts [] []) (x .1)
-    (record { alphabet = refl; options = refl; choice = x .0; bytes = tt; reads = refl; taken = refl; within = omega arith; stands = tt })
+    (record { alphabet = refl; options = refl; choice = x .0; bytes = tt; reads = reads-none a opts (going fresh []); taken = refl; within = omega arith; stands = tt })
 
 module _ {a opts : ℕ} {t out : List ℕ} {s : Stream} (x : Standing a opts t out s) where
   -- a call that returns the state unchanged

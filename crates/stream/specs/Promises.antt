@@ -1,10 +1,10 @@
 -- 01, "Streams" and "How much a contract has to say": what is shown of a reader's stream, whatever calls were made, against the cleaning and the
 -- continuations. Assumes nothing.
-use Prim.Native.Nat.{ℕ, _<_, _≤_}
+use Prim.Native.Nat.{ℕ, _+_, _<_, _≤_}
 use mathlib.Core.Path.{_≡_}
 use mathlib.Core.Logic.{_⊎_, _↔_}
 use mathlib.Core.List.{List, [], _++_}
-use lib.ListN.{length, getD}
+use lib.ListN.{length, take, getD}
 use Rattle.reading.specs.Limit.{limit}
 use Rattle.reading.specs.Continuation.{Continued, LongestShared}
 use Rattle.reading.specs.Reader.{State, gives, refuses, going, fresh, step, feedAll, Verdict, judged}
@@ -87,3 +87,10 @@ pub record GoesOn (s : Stream) (piece : List ℕ) (room : ℕ) : Type 0 where
   pub moves : 0 < length piece → 0 < room → (0 < stepOf s piece room .took) ⊎ Refused (stepOf s piece room .stream)
   pub within : stepOf s piece room .took ≤ length piece
   pub fits : length (stepOf s piece room .wrote) ≤ room
+
+-- what is taken can go on to an accepted text; and where a step stopped before the limit, the next byte is refused exactly when no continuation could
+-- save the text with it
+pub record RefusesExactly (a opts : ℕ) (t piece : List ℕ) (c : Called) : Type 0 where
+  pub continued : Continued a opts (t ++ take (c .took) piece)
+  pub exactly : c .took < length piece → c .position < limit
+      → ((4 ≤ c .answer) × (c .answer ≤ 7)) ↔ (Continued a opts (t ++ take (c .took + 1) piece) → ⊥)
