@@ -21,3 +21,4 @@ pub mod Parting
 pub mod StepLaws
 pub mod SpareBits
 pub mod Leaving
+pub mod HexSizes

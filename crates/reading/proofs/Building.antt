@@ -103,6 +103,13 @@ module _ (a : ℕ) (h : a < 6) (opts : ℕ) (c : allowed a opts ≡ true) where
   plain-digits [] l = refl
   plain-digits (v ∷ ds) l = rw (kept-high opts (digit a v) (digit-printable a h (l .0) .0), digit-stays (l .0), plain-digits ds (l .1))
 
+  pub digits-read : (ds : List ℕ) → Below (2 ^ bits a) ds → feedAll a opts (going fresh []) (map (digit a) ds) ≡ seen a ds 0 (length ds)
+  digits-read ds l =
+      let size : 0 + length (map (digit a) ds) ≡ length ds = omega (arith, length-map ds (digit a)) in
+      ap (λ (r : Reading). feedAll a opts r (map (digit a) ds)) (fresh-seen a)
+      ∙ feed-shape a h opts (map (digit a) ds) [] ds 0 0 l (plain-digits ds l ∙ sym (append-nil (map (digit a) ds))) (omega arith) (λ n. absurd (omega arith))
+      ∙ ap (seen a ds 0) size
+
   -- bytes that are dropped
 
   plain-dropped : (b n : ℕ) → dropped opts b ≡ true → plain a opts (replicate n b) ≡ []

@@ -28,3 +28,4 @@ pub mod RunRoom
 pub mod Refusals
 pub mod Building
 pub mod Taking
+pub mod LimitCases

@@ -101,6 +101,10 @@ module _ (a opts : ℕ) (s : State) where
       go false e v false true f false g true k = spare (spare-left e g k) f
       go false e v false true f false g false k = whole
 
+  pub ends-whole : s .pads ≡ 0 → s .digits % group a ≡ 0 → ending a opts s ≡ 0
+  unfolding ending
+  ends-whole e f = rw (le-ltb 0 (s .pads) (omega arith), eq-eqb (s .digits % group a) 0 f)
+
   pub ends-spare : a < 6 → SpareLeft a opts s → nopad opts ≡ true → ending a opts s ≡ 6
   unfolding ending wants
   ends-spare h x n =

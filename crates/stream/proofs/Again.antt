@@ -1,7 +1,7 @@
 -- T6: what a call leaves passes the test; a refusal that it leaves is given again by every call, at the same position and changing nothing, and a
 -- finish that answered 0 leaves a finished stream. Assumes nothing.
-use Prim.Native.Nat.{ℕ, _<_}
-use mathlib.Core.Path.{_≡_, refl, sym, ap, _∙_, subst}
+use Prim.Native.Nat.{ℕ}
+use mathlib.Core.Path.{_≡_, refl, sym, ap, _∙_}
 use mathlib.Core.Logic.{_⊎_, inl, inr}
 use mathlib.Core.Bool.{Bool, true, false, cond}
 use mathlib.Core.List.{List}
@@ -14,7 +14,7 @@ use Rattle.stream.specs.Stream.{Status, live, shut, done, Stream}
 use Rattle.stream.specs.Given.{given}
 use Rattle.stream.specs.Calls.{Called, unmoved, stepOf, endStatus, closes, finishOf}
 use Rattle.stream.specs.Reached.{stepped, closed}
-use Rattle.stream.specs.Promises.{Sticks, GivenAgain, TookAll, RefusedNext, NextNeedsRoom}
+use Rattle.stream.specs.Promises.{GivenAgain, TookAll, RefusedNext, NextNeedsRoom}
 use Rattle.stream.proofs.Order.{ten-sticks, refusal-sticks, live-finish}
 use Rattle.stream.proofs.Standing.{Stands}
 use Rattle.stream.proofs.GivenLaws.{given-says}

@@ -3,22 +3,21 @@
 use Prim.Native.Nat.{ℕ, suc, _<_, _≤_}
 use mathlib.Core.Path.{_≡_, refl, sym, ap, _∙_}
 use mathlib.Core.Logic.{_⊎_, inl, inr}
-use mathlib.Core.Bool.{Bool, true, false, cond}
+use mathlib.Core.Bool.{Bool, true, false}
 use mathlib.Core.List.{List, [], _∷_, _++_, append-nil}
 use native.Mathlib.Omega.{arith}
 use lib.Dec.{ltb}
 use lib.ListN.{length, take, drop, getD, length-take, length-drop}
 use lib.Seq.{drop-cons}
-use borrow.Author.Tests.{ltb-true, ltb-false, eq-eqb}
+use borrow.Author.Tests.{ltb-true, ltb-false}
 use Rattle.alphabet.specs.Bits.{Below}
 use Rattle.reading.specs.Limit.{limit}
-use Rattle.reading.specs.Reader.{refuses, step, ending, judged}
+use Rattle.reading.specs.Reader.{refuses, step, judged}
 use Rattle.reading.proofs.Meaning.{promised}
 use Rattle.reading.proofs.OptionLaws.{allowed-alphabet}
-use Rattle.reading.proofs.Positions.{refuses-range}
 use Rattle.reading.proofs.Joined.{judged-end, judged-past, judged-refused}
-use Rattle.stream.specs.Stream.{Status, live, shut, done, Stream, started, startOf}
-use Rattle.stream.specs.Calls.{Called, unmoved, stepOf, endStatus, closes, finishOf}
+use Rattle.stream.specs.Stream.{Status, live, shut, Stream, started, startOf}
+use Rattle.stream.specs.Calls.{unmoved, stepOf, closes, finishOf}
 use Rattle.stream.specs.Driving.{Offer, Driven, begin, told, offer, drive, Offering, Refused, Settled}
 use Rattle.stream.specs.Promises.{finishVerdict, Settles, GoesOn}
 use Rattle.stream.proofs.Order.{refusal-sticks, live-finish}

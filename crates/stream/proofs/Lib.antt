@@ -9,3 +9,4 @@ pub mod Again
 pub mod DrivingLaws
 pub mod AnyCutting
 pub mod RefusesExactly
+pub mod LimitCases

@@ -1,22 +1,21 @@
 -- T5, of the answers: 9 is given exactly on the states that no calls give. Assumes nothing.
 use Prim.Native.Nat.{ℕ, _<_, _≤_}
 use mathlib.Core.Path.{_≡_, refl, sym, ap, _∙_, subst}
-use mathlib.Core.Logic.{_⊎_, inl, inr, ⊎-elim, _↔_}
-use mathlib.Core.Bool.{Bool, true, false, cond}
+use mathlib.Core.Logic.{_⊎_, inl, inr, ⊎-elim}
+use mathlib.Core.Bool.{Bool, true, false}
 use mathlib.Core.List.{List}
 use native.Mathlib.Omega.{arith}
-use Rattle.alphabet.specs.Bits.{Below}
-use Rattle.reading.specs.Reader.{State, ending}
+use Rattle.reading.specs.Reader.{State}
 use Rattle.reading.proofs.Positions.{refuses-range}
 use Rattle.reading.proofs.Refusals.{Ended, whole, spare, short, ended}
 use Rattle.stream.specs.Stream.{Status, live, shut, done, Stream}
 use Rattle.stream.specs.Given.{given}
-use Rattle.stream.specs.Calls.{Called, unmoved, stepOf, closes, finishOf}
-use Rattle.stream.specs.Reached.{stepped, closed, Reachable}
+use Rattle.stream.specs.Calls.{Called, stepOf, closes, finishOf}
+use Rattle.stream.specs.Reached.{Reachable}
 use Rattle.stream.specs.Promises.{Sticks, NineExactly, TookAll, RefusedNext, NextNeedsRoom}
 use Rattle.stream.proofs.Order.{nine-sticks, ten-sticks, refusal-sticks, live-finish}
 use Rattle.stream.proofs.Standing.{Refusal, at-limit, at-byte, at-end, Stands}
-use Rattle.stream.proofs.GivenLaws.{Sound, given-says}
+use Rattle.stream.proofs.GivenLaws.{given-says}
 use Rattle.stream.proofs.Reaching.{calls-given, given-reached}
 use Rattle.stream.proofs.GoesOn.{step-goes-on}
 

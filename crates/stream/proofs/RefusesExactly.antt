@@ -1,6 +1,6 @@
 -- Up to the limit a step refuses a byte exactly when no continuation could save the text with it. Assumes nothing.
 use Prim.Native.Nat.{ℕ, _+_, _<_, _≤_}
-use mathlib.Core.Path.{_≡_, refl, sym, ap, _∙_, subst, subst₂}
+use mathlib.Core.Path.{_≡_, sym, ap, _∙_, subst, subst₂}
 use mathlib.Core.Logic.{_⊎_, inl, inr, ⊎-elim}
 use mathlib.Core.List.{List, [], _∷_, _++_, append-assoc}
 use native.Mathlib.Numerals.{add-one}
@@ -10,8 +10,8 @@ use lib.Seq.{take-length, take-suc}
 use Rattle.alphabet.specs.Bits.{Below}
 use Rattle.reading.specs.Limit.{limit}
 use Rattle.reading.specs.Continuation.{Continued}
-use Rattle.reading.specs.Promises.{BlamesByte, Promised, LostAt}
-use Rattle.reading.specs.Reader.{State, gives, refuses, Verdict, going, fresh, step, feedAll, judged}
+use Rattle.reading.specs.Promises.{BlamesByte, LostAt}
+use Rattle.reading.specs.Reader.{State, gives, refuses, going, fresh, step, feedAll, judged}
 use Rattle.reading.proofs.OptionLaws.{allowed-alphabet}
 use Rattle.reading.proofs.Continuations.{read-continued}
 use Rattle.reading.proofs.Fronts.{seen-going}
@@ -23,7 +23,7 @@ use Rattle.stream.specs.Stream.{live, Stream}
 use Rattle.stream.specs.Calls.{Called, stepOf}
 use Rattle.stream.specs.Reached.{Calls, stepped}
 use Rattle.stream.specs.Promises.{AfterCalls, TookAll, RefusedNext, NextNeedsRoom, RefusesExactly}
-use Rattle.stream.proofs.Standing.{Standing, standing}
+use Rattle.stream.proofs.Standing.{standing}
 use Rattle.stream.proofs.AfterCalls.{after-any-calls}
 use Rattle.stream.proofs.Reaching.{calls-given}
 use Rattle.stream.proofs.GoesOn.{step-goes-on}
