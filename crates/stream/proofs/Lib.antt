@@ -10,3 +10,4 @@ pub mod DrivingLaws
 pub mod AnyCutting
 pub mod RefusesExactly
 pub mod LimitCases
+pub mod Known

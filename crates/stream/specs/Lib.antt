@@ -4,3 +4,4 @@ pub mod Calls
 pub mod Reached
 pub mod Driving
 pub mod Promises
+pub mod Known
