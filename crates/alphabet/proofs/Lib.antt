@@ -20,3 +20,5 @@ pub mod Edges
 pub mod Parting
 pub mod StepLaws
 pub mod SpareBits
+pub mod Leaving
+pub mod HexSizes

@@ -61,7 +61,7 @@ feed-padded a h opts ds (c ∷ t) p i n e l z = go (plain-case a opts c t) n e l
         rw (feed-next a h opts ds p i c (x .0) (head-eq-of-cons-eq (sym (x .1) ∙ e)) (omega arith) (z (omega arith)))
         (rec (p + 1) (i + 1) n (tail-eq-of-cons-eq (sym (x .1) ∙ e)) (omega arith) (λ k. z (omega arith)) ∙ ap₂ (seen a ds) (omega arith) (omega arith))
 
-feed-shape : (a : ℕ) → a < 6 → (opts : ℕ) (t ds vs : List ℕ) (n i : ℕ) → Below (2 ^ bits a) vs → plain a opts t ≡ shape a vs n
+pub feed-shape : (a : ℕ) → a < 6 → (opts : ℕ) (t ds vs : List ℕ) (n i : ℕ) → Below (2 ^ bits a) vs → plain a opts t ≡ shape a vs n
     → n ≤ tail a (length (ds ++ vs) % group a) → (0 < n → anySpare opts ≡ false → leftOf (bits a) (ds ++ vs) ≡ 0)
     → feedAll a opts (seen a ds 0 i) t ≡ seen a (ds ++ vs) n (i + length t)
 unfolding feedAll kept

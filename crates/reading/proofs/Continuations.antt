@@ -32,7 +32,7 @@ use Rattle.reading.proofs.AcceptedIsZero.{accepted→accepts}
 
 -- ---- lists of one value
 
-plain-one : (a opts c : ℕ) → 32 < c → turned a opts c ≡ c → (n : ℕ) → plain a opts (replicate n c) ≡ replicate n c
+pub plain-one : (a opts c : ℕ) → 32 < c → turned a opts c ≡ c → (n : ℕ) → plain a opts (replicate n c) ≡ replicate n c
 unfolding kept
 plain-one a opts c l e zero = refl
 plain-one a opts c l e (suc n) = rw (kept-high opts c l, e, plain-one a opts c l e n)

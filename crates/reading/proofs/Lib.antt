@@ -25,3 +25,7 @@ pub mod StepLaws
 pub mod RunSteps
 pub mod StepCases
 pub mod RunRoom
+pub mod Refusals
+pub mod Building
+pub mod Taking
+pub mod LimitCases
