@@ -7,6 +7,7 @@ use crate::rule::Took;
 use crate::rule::on_digit;
 use crate::rule::rare;
 use alphabet::table::Symbol;
+pub use reading::limit;
 ghost use Prim.Native.Nat.{_<_, _≤_};
 ghost use mathlib.Core.Path.{_≡_};
 ghost use mathlib.Core.Bool.{true};
@@ -33,13 +34,6 @@ pub struct Ran {
     pub why: Why,
     pub took: usize,
     pub wrote: usize,
-}
-
-// The limit L of 01, the one place of its number in code.
-pub fn limit() -> usize
-    ensures { λ r. ⌜ r ≡ Limit.limit ⌝ }
-{
-    16777216
 }
 
 // The state before any text.
