@@ -25,3 +25,5 @@ pub mod StepLaws
 pub mod RunSteps
 pub mod StepCases
 pub mod RunRoom
+pub mod GoodCount
+pub mod WholeRun
