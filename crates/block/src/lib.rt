@@ -1,0 +1,2 @@
+// The whole calls of reading: judge, reader into a second buffer, reader in place, tidier.
+pub mod judge; // judge.rt: the judge, and the answer that a run over a whole text stands for
