@@ -45,7 +45,7 @@ module _ (a opts : ℕ) (t : List ℕ) where
         go P.full e = absurd (never-full a opts t room enough e)
 
   -- counted alone, or in place: room never lacks
-  within : allowed a opts ≡ true → length (judged a opts t .good) ≤ length t
+  pub within : allowed a opts ≡ true → length (judged a opts t .good) ≤ length t
   within e = good-within a (allowed-alphabet a opts e) opts t
 
   pub count-answers : answered a opts (freshAs a opts t) ≡ judgeOf a opts t
