@@ -1,8 +1,8 @@
--- `read::read_in_place`: the run in place stands for the verdict. Assumes nothing.
+-- `reader::read_in_place`: the run in place stands for the verdict. Assumes nothing.
 use Rattle.block.proofs.ReaderReturns.{placed}
 use borrow.Author.Needs.{needs}
-use Rattle.block.proofs.read.read_in_place.Statement.{statement}
-use Rattle.block.proofs.read.read_in_place.Tie as tie
+use Rattle.block.proofs.reader.read_in_place.Statement.{statement}
+use Rattle.block.proofs.reader.read_in_place.Tie as tie
 
 in-place-requires : tie.Need-in-place-requires
 in-place-requires c κs = search needs

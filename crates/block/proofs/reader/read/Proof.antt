@@ -1,9 +1,9 @@
--- `read::read`: the choice, then the room, then the run. Assumes nothing.
+-- `reader::read`: the choice, then the room, then the run. Assumes nothing.
 use mathlib.Core.Path.{sym, _∙_}
 use Rattle.block.proofs.ReaderReturns.{declined, lacking, read-through}
 use borrow.Author.Needs.{needs}
-use Rattle.block.proofs.read.read.Statement.{statement}
-use Rattle.block.proofs.read.read.Tie as tie
+use Rattle.block.proofs.reader.read.Statement.{statement}
+use Rattle.block.proofs.reader.read.Tie as tie
 
 allowed-requires : tie.Need-allowed-requires
 allowed-requires c κs = search needs

@@ -1,11 +1,11 @@
--- `read::most`: a product within the limit fits, and the tests are the definition's. Assumes nothing.
+-- `reader::most`: a product within the limit fits, and the tests are the definition's. Assumes nothing.
 use native.Mathlib.Omega.{arith}
 use borrow.Author.Tests.{lt-ltb, le-ltb}
 use Rattle.engine.proofs.AtLimit.{small-product}
 use Rattle.block.specs.Room.{mostOf}
 use borrow.Author.Needs.{needs}
-use Rattle.block.proofs.read.most.Statement.{statement}
-use Rattle.block.proofs.read.most.Tie as tie
+use Rattle.block.proofs.reader.most.Statement.{statement}
+use Rattle.block.proofs.reader.most.Tie as tie
 
 bits-requires : tie.Need-bits-requires
 bits-requires c κs = search needs

@@ -1,10 +1,10 @@
--- `judge::outcome`: by why the run stopped, and at the end by what the end gives. Assumes nothing.
+-- `judging::outcome`: by why the run stopped, and at the end by what the end gives. Assumes nothing.
 use Rattle.answer.specs.Told.{number, position, told}
 use Rattle.engine.specs.Meaning as Engine
 use Rattle.block.specs.Answered.{answeredBy}
 use borrow.Author.Needs.{needs}
-use Rattle.block.proofs.judge.outcome.Statement.{statement}
-use Rattle.block.proofs.judge.outcome.Tie as tie
+use Rattle.block.proofs.judging.outcome.Statement.{statement}
+use Rattle.block.proofs.judging.outcome.Tie as tie
 
 enum-told : tie.Need-enum-told
 enum-told c = search needs

@@ -1,5 +1,5 @@
 // The readers: the good bytes of a text at the front of a second buffer, or of the buffer that holds the text.
-use crate::judge::outcome;
+use crate::judging::outcome;
 use answer::Count;
 use answer::Kind;
 use answer::Outcome;

@@ -1,10 +1,10 @@
--- `judge::judge`: the count stands for the verdict. Assumes nothing.
+-- `judging::judge`: the count stands for the verdict. Assumes nothing.
 use mathlib.Core.Path.{_≡_, ap, _∙_}
 use Rattle.block.specs.Answered.{answered}
 use Rattle.block.proofs.Answers.{promised-of, count-answers}
 use borrow.Author.Needs.{needs}
-use Rattle.block.proofs.judge.judge.Statement.{statement}
-use Rattle.block.proofs.judge.judge.Tie as tie
+use Rattle.block.proofs.judging.judge.Statement.{statement}
+use Rattle.block.proofs.judging.judge.Tie as tie
 
 count-requires : tie.Need-count-requires
 count-requires c κs = search needs

@@ -1,4 +1,4 @@
--- `read::needed`: the room certainly suffices, or the bytes are counted. Assumes nothing.
+-- `reader::needed`: the room certainly suffices, or the bytes are counted. Assumes nothing.
 use mathlib.Core.Path.{ap, _∙_}
 use borrow.Author.Tests.{le-leb, lt-leb}
 use Rattle.reading.proofs.OptionLaws.{allowed-alphabet}
@@ -6,8 +6,8 @@ use Rattle.engine.specs.declared.piece.Ran.{Ran}
 use Rattle.block.specs.Room.{neededOf}
 use Rattle.block.proofs.RoomLaws.{counted}
 use borrow.Author.Needs.{needs}
-use Rattle.block.proofs.read.needed.Statement.{statement}
-use Rattle.block.proofs.read.needed.Tie as tie
+use Rattle.block.proofs.reader.needed.Statement.{statement}
+use Rattle.block.proofs.reader.needed.Tie as tie
 
 most-requires : tie.Need-most-requires
 most-requires c κs = allowed-alphabet _ _ (c .before .pre)

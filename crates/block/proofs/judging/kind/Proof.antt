@@ -1,10 +1,10 @@
--- `judge::kind`: by the cause. Assumes nothing.
+-- `judging::kind`: by the cause. Assumes nothing.
 use mathlib.Core.Path.{refl}
 use Rattle.answer.specs.Told as Told
 use Rattle.engine.specs.Meaning as Engine
 use borrow.Author.Needs.{needs}
-use Rattle.block.proofs.judge.kind.Statement.{statement}
-use Rattle.block.proofs.judge.kind.Tie as tie
+use Rattle.block.proofs.judging.kind.Statement.{statement}
+use Rattle.block.proofs.judging.kind.Tie as tie
 
 enum-told : tie.Need-enum-told
 enum-told c = search needs
