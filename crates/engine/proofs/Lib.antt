@@ -3,3 +3,4 @@ pub mod Steps
 pub mod Bytes
 pub mod Loops
 pub mod AtLimit
+pub mod FromFresh

@@ -29,3 +29,5 @@ pub mod Refusals
 pub mod Building
 pub mod Taking
 pub mod LimitCases
+pub mod GoodCount
+pub mod WholeRun

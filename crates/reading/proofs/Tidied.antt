@@ -39,7 +39,7 @@ use Rattle.reading.proofs.Strict.{strict-cleans-nothing}
 
 -- ---- lengths
 
-kept-shorter : (opts : ℕ) (t : List ℕ) → length (kept opts t) ≤ length t
+pub kept-shorter : (opts : ℕ) (t : List ℕ) → length (kept opts t) ≤ length t
 unfolding kept
 kept-shorter opts [] = omega arith
 kept-shorter opts (c ∷ t) = go (dropped opts c) (kept-shorter opts t)
