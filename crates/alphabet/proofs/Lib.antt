@@ -4,3 +4,5 @@ pub mod DigitLaws
 pub mod Flow
 pub mod AlphabetLaws
 pub mod WrittenLaws
+pub mod Cutting
+pub mod Ends

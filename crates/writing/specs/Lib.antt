@@ -1,0 +1,4 @@
+pub mod Front
+pub mod Machine
+pub mod Stream
+pub mod Whole
