@@ -6,3 +6,4 @@ pub mod LaxComplete
 pub mod Continuations
 pub mod Final
 pub mod Outcomes
+pub mod LimitLaws

@@ -37,13 +37,12 @@ module _ (b : ℕ) (pos : 0 < b) where
   -- one byte more: the digits that it completes have come out, and the rest is held
   byte-flow : (src : List ℕ) (c : ℕ)
       → Flow 8 b (src ++ c ∷ []) (full b src ++ completes b (length src) (heldOf b src) c) ((8 * length src % b + 8) % b) (keeps b (length src) (heldOf b src) c)
-  unfolding completes keeps fullRuns
+  unfolding waiting completes keeps fullRuns
   byte-flow src c =
       let w = waiting b (length src) (heldOf b src) c in
       rw (waiting-length (length src) (heldOf b src) c) at (cut-flow 8 b pos (src ++ c ∷ []) (full b src) w (full-flow src .below) joined)
     where
       joined : unpack 8 (src ++ c ∷ []) ≡ unpack b (full b src) ++ waiting b (length src) (heldOf b src) c
-      unfolding waiting
       joined = rw (unpack-append 8 src (c ∷ []), unpack-one 8 c, full-flow src .same, append-assoc)
 
   pub full-snoc : (src : List ℕ) (c : ℕ) → full b (src ++ c ∷ []) ≡ full b src ++ completes b (length src) (heldOf b src) c
@@ -79,7 +78,6 @@ module _ (a : ℕ) (h : a < 6) where
       f = full-flow (bits a) some-bits src
 
       go : (t : Bool) → eqb (8 * length src % bits a) 0 ≡ t → front a src ++ ending a (length src) (heldOf (bits a) src) ≡ written a src
-      unfolding front ending
       go true e =
           rw (e, append-nil)
           (sym (written-full a h src (full (bits a) src) (heldOf (bits a) src) (rw (eqb-true (8 * length src % bits a) 0 e) at f)))
