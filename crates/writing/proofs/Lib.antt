@@ -1,2 +1,3 @@
 pub mod FrontLaws
 pub mod LengthLaws
+pub mod RunLaws
