@@ -6,3 +6,7 @@ pub mod AlphabetLaws
 pub mod WrittenLaws
 pub mod Cutting
 pub mod Ends
+pub mod SizeTests
+pub mod Shifts
+pub mod TableLaws
+pub mod RegroupLaws

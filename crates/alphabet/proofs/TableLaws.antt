@@ -1,0 +1,73 @@
+-- The table's rule carried to each alphabet and byte: what `lookup` and `digit` find in the tables is what the byte and the value are.
+-- Assumes nothing.
+use Prim.Native.Nat.{ℕ, zero, suc, _+_, _*_, _/_, _%_, _^_, _<_}
+use mathlib.Core.Path.{_≡_, refl, sym, ap, ap₂, _∙_}
+use mathlib.Core.Logic.{_⊎_, inl, inr}
+use mathlib.Core.Bool.{Bool, true, false, cond, not}
+use mathlib.Core.List.{[], _∷_}
+use native.Mathlib.Nat.{add-zero, lt-of-lt-of-le}
+use native.Mathlib.Omega.{arith}
+use lib.Dec.{eqb, ltb}
+use lib.ListN.{getD}
+use lib.Pow.{pow-mono}
+use borrow.Author.Tests.{lt-ltb, le-ltb, eq-eqb, ne-eqb}
+use Rattle.alphabet.specs.Alphabet.{bits, digit, value, isDigit, isPad}
+use Rattle.alphabet.specs.Table.{made, entries, symbolOf, symbolIn, digitEntries, digitIn}
+use Rattle.alphabet.specs.declared.table.Symbol.the-variants.{Digit, Pad, Neither}
+use Rattle.alphabet.proofs.AlphabetLaws.{bits-high, value-small, digit-value}
+
+made-at : (f : ℕ → ℕ) (n k j : ℕ) → j < n → getD (made f n k) j 0 ≡ f (k + j)
+unfolding made
+made-at f zero k j h = absurd (omega arith)
+made-at f (suc n) k zero h = ap f (sym (add-zero k))
+made-at f (suc n) k (suc j) h = made-at f n (suc k) j (omega arith) ∙ ap f (omega arith)
+
+pub entry-is : (a c : ℕ) → a < 6 → c < 256 → getD entries (a * 256 + c) 0 ≡ value a c
+unfolding entries
+entry-is a c h l =
+    let q : (0 + (a * 256 + c)) / 256 ≡ a = omega arith in
+    let r : (0 + (a * 256 + c)) % 256 ≡ c = omega arith in
+    made-at _ 1536 0 (a * 256 + c) (omega arith) ∙ ap₂ value q r
+
+digit-entry : (a v : ℕ) → a < 6 → v < 64 → getD digitEntries (a * 64 + v) 0 ≡ digit a v
+unfolding digitEntries
+digit-entry a v h l =
+    let q : (0 + (a * 64 + v)) / 64 ≡ a = omega arith in
+    let r : (0 + (a * 64 + v)) % 64 ≡ v = omega arith in
+    made-at _ 384 0 (a * 64 + v) (omega arith) ∙ ap₂ digit q r
+
+-- a byte's value is small, or 255 where it is no digit
+value-tests : (a : ℕ) → a < 6 → (c : ℕ) → ltb (value a c) 255 ≡ not (eqb (value a c) 255)
+value-tests a h c = go (digit-value a h c)
+  where
+    go : (value a c ≡ 255) ⊎ ((value a c < 2 ^ bits a) × (digit a (value a c) ≡ c)) → ltb (value a c) 255 ≡ not (eqb (value a c) 255)
+    go (inl e) = rw e
+    go (inr p) =
+        let l : value a c < 255 = value-small a h (p .0) in
+        rw (lt-ltb (value a c) 255 l, ne-eqb (value a c) 255 (λ e. omega arith))
+
+-- ---- what a byte is
+
+pub symbol-is : (a c : ℕ) → a < 6 → c < 256 → symbolIn entries a c ≡ symbolOf a c
+unfolding symbolIn symbolOf isDigit
+symbol-is a c h l = rw (lt-ltb a 6 h, entry-is a c h l, value-tests a h c)
+
+pub symbol-digit : (a c : ℕ) → isDigit a c ≡ true → symbolOf a c ≡ Digit (value a c)
+unfolding symbolOf
+symbol-digit a c d = rw d
+
+pub symbol-pad : (a c : ℕ) → isDigit a c ≡ false → isPad a c ≡ true → symbolOf a c ≡ Pad
+unfolding symbolOf
+symbol-pad a c d p = rw (d, p)
+
+pub symbol-neither : (a c : ℕ) → isDigit a c ≡ false → isPad a c ≡ false → symbolOf a c ≡ Neither
+unfolding symbolOf
+symbol-neither a c d p = rw (d, p)
+
+-- ---- the digit of a value
+
+pub digit-is : (a v : ℕ) → a < 6 → v < 2 ^ bits a → digitIn digitEntries a v ≡ digit a v
+unfolding digitIn
+digit-is a v h l =
+    let k : v < 64 = lt-of-lt-of-le l (pow-mono {j = 6} (bits-high a h)) in
+    rw (lt-ltb a 6 h, lt-ltb v 64 k) (digit-entry a v h k)

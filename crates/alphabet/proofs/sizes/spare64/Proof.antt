@@ -1,0 +1,19 @@
+-- The number that the match finds is the table's. Assumes nothing.
+use Rattle.alphabet.specs.Alphabet.{spare}
+use Rattle.alphabet.proofs.SizeTests.{spare64-rest}
+use Rattle.alphabet.proofs.sizes.spare64.Statement.{statement}
+use Rattle.alphabet.proofs.sizes.spare64.Tie as tie
+
+returns : tie.Need-returns
+unfolding spare
+returns c = rw (c .match .keys1)
+
+returns-2 : tie.Need-returns-2
+unfolding spare
+returns-2 c = rw (c .match .keys2)
+
+returns-3 : tie.Need-returns-3
+returns-3 c = rw (spare64-rest _ (c .match .rest .0 .1) (c .match .rest .1))
+
+pub spare64-spec : {M : Type 1} → statement M
+spare64-spec = tie.close (tie.spec returns returns-2 returns-3)
