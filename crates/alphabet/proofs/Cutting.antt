@@ -4,15 +4,15 @@ use Prim.Native.Nat.{ℕ, zero, suc, _+_, _-_, _*_, _/_, _%_, _^_, _<_, _≤_}
 use mathlib.Core.Path.{_≡_, refl, sym, ap, _∙_, subst}
 use mathlib.Core.Bool.{Bool}
 use mathlib.Core.List.{List, [], _∷_, _++_, append-assoc, append-nil}
-use native.Mathlib.Nat.{mod-lt, div-add-mod, mul-comm, add-zero, add-comm, div-eq-of-lt-le, add-mul, one-mul}
+use native.Mathlib.Nat.{mod-lt, div-add-mod, mul-comm, mul-suc, mul-zero, add-zero, add-comm, div-eq-of-lt-le, add-mul, one-mul}
 use native.Mathlib.Omega.{arith}
 use lib.ListN.{length, take, drop, length-append, length-take, length-drop, take-append-drop}
-use lib.Seq.{drop-at}
-use lib.Pow.{pow-add, pow-pos}
+use lib.Seq.{take-at, drop-at, drop-drop}
+use lib.Pow.{pow-add, pow-pos, shr-lt}
 use lib.Arith.{digits-lt}
 use Rattle.alphabet.specs.Bits.{bitsOf, valueOf, unpack, pack, zeros, Below}
 use Rattle.alphabet.specs.Digits.{digitsOf}
-use Rattle.alphabet.proofs.BitLaws.{bits-length, bits-join, bits-zero, bits-value-at, value-lt, value-bits, unpack-append, unpack-length, pack-length, pack-below, unpack-front, below-snoc}
+use Rattle.alphabet.proofs.BitLaws.{bits-length, bits-split, bits-mod, bits-join, bits-zero, bits-value-at, value-lt, value-bits, unpack-append, unpack-length, pack-length, pack-below, unpack-front, below-snoc}
 use Rattle.alphabet.proofs.DigitLaws.{Spells, spell-digits}
 use Rattle.alphabet.proofs.Flow.{Flow, out-is}
 
@@ -83,3 +83,29 @@ module _ (b : ℕ) (src outs : List ℕ) where
       ap (λ (k : ℕ). bitsOf k z) (sym w) ∙ ap (bitsOf (r + (b - r))) (sym (add-zero z)) ∙ bits-join r (b - r) held (pow-pos (b - r)) ∙ ap (λ (y : List Bool). bitsOf r held ++ y) (bits-zero (b - r)) in
       spell-digits b (outs ++ z ∷ []) src (below-snoc (2 ^ b) outs (f .below) l)
       (record { spare = b - r; few = omega arith; same = rw (unpack-append b outs (z ∷ []), unpack-one b z, s, ← append-assoc, ← f .same) })
+
+-- ---- the bits of a number, cut: the first run is the quotient, and the cut goes on with the remainder
+
+pub pack-none : (w : ℕ) (cs : List Bool) → pack w 0 cs ≡ []
+unfolding pack
+pack-none w cs = refl
+
+module _ (w n : ℕ) {z : ℕ} (small : z < 2 ^ (w + n)) where
+  first-run : bitsOf (w + n) z ≡ bitsOf w (z / 2 ^ n) ++ bitsOf n (z % 2 ^ n)
+  first-run = bits-split w n z ∙ ap (λ (l : List Bool). bitsOf w (z / 2 ^ n) ++ l) (sym (bits-mod n z))
+
+  pub pack-bits : (k : ℕ) → pack w (suc k) (bitsOf (w + n) z) ≡ z / 2 ^ n ∷ pack w k (bitsOf n (z % 2 ^ n))
+  unfolding pack
+  pack-bits k =
+      let x : List Bool = bitsOf w (z / 2 ^ n) in
+      let y : List Bool = bitsOf n (z % 2 ^ n) in
+      rw (first-run, take-at x y w (bits-length w (z / 2 ^ n)), drop-at x y w (bits-length w (z / 2 ^ n)), value-bits w (shr-lt w n small))
+
+  pub drop-bits : (k : ℕ) → drop (w * suc k) (bitsOf (w + n) z) ≡ drop (w * k) (bitsOf n (z % 2 ^ n))
+  drop-bits k =
+      let x : List Bool = bitsOf w (z / 2 ^ n) in
+      let y : List Bool = bitsOf n (z % 2 ^ n) in
+      rw (mul-suc w k, add-comm (w * k) w, ← drop-drop (w * k) w (bitsOf (w + n) z), first-run, drop-at x y w (bits-length w (z / 2 ^ n)))
+
+pub drop-no-run : (w n : ℕ) {z : ℕ} → z < 2 ^ n → valueOf (drop (w * 0) (bitsOf n z)) ≡ z
+drop-no-run w n h = rw (mul-zero w) (value-bits n h)

@@ -61,6 +61,10 @@ written-length a src =
     let e : length (pack (bits a) d (filled (bits a) src)) ≡ d = pack-length (bits a) d (filled (bits a) src) in
     simp (length-append, length-replicate) (rw (length-map (pack (bits a) d (filled (bits a) src)) (digit a), e))
 
+pub count-as : (b n : ℕ) → digitCount b n ≡ (8 * n + (b - 1)) / b
+unfolding digitCount
+count-as b n = refl
+
 -- n bytes want no more than d digits exactly if the digits have as many bits
 pub count-most : (b n d : ℕ) → 0 < b → (digitCount b n ≤ d) ↔ (8 * n ≤ b * d)
 unfolding digitCount

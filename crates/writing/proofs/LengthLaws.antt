@@ -1,19 +1,20 @@
 -- The length of the written form of n bytes, and the limit in source bytes: the written form is within the limit exactly if the limit's digits
 -- have as many bits as the source. Assumes nothing.
-use Prim.Native.Nat.{ℕ, suc, _+_, _-_, _*_, _/_, _%_, _<_, _≤_}
-use mathlib.Core.Path.{_≡_, refl, sym, ap, _∙_, subst}
+use Prim.Native.Nat.{ℕ, _+_, _-_, _*_, _/_, _%_, _^_, _<_, _≤_}
+use mathlib.Core.Path.{_≡_}
 use mathlib.Core.Logic.{_↔_}
 use mathlib.Core.List.{List}
-use native.Mathlib.Nat.{le-div-iff-mul-le, mul-comm}
+use native.Mathlib.Nat.{mul-le-mul-right, add-zero}
 use native.Mathlib.Omega.{arith}
 use lib.ListN.{length}
 use Rattle.alphabet.specs.Alphabet.{bits, group}
 use Rattle.alphabet.specs.Digits.{digitCount}
-use Rattle.alphabet.specs.Written.{wanting, written}
-use Rattle.alphabet.proofs.AlphabetLaws.{bits-low, group-pos}
+use Rattle.alphabet.specs.Written.{written}
+use Rattle.alphabet.proofs.AlphabetLaws.{bits-low, bits-high, group-pos}
+use Rattle.alphabet.proofs.WrittenLaws.{wanting-none, wanting-some}
 use Rattle.alphabet.proofs.Ends as ends
 use Rattle.reading.specs.Limit.{limit}
-use Rattle.reading.proofs.LimitLaws.{limit-eights}
+use Rattle.reading.proofs.LimitLaws.{limit-eights, limit-small}
 use Rattle.writing.specs.Front.{writtenLength}
 
 pub written-length : (a : ℕ) (src : List ℕ) → length (written a src) ≡ writtenLength a (length src)
@@ -36,3 +37,23 @@ module _ (a : ℕ) (h : a < 6) where
 
   pub none-within : writtenLength a 0 ≤ limit
   none-within = within-most 0 .1 (omega arith)
+
+  -- the code's numbers are small
+  pub source-small : (n : ℕ) → writtenLength a n ≤ limit → 8 * n < 2 ^ 28
+  source-small n l =
+      let m : bits a * limit ≤ 6 * limit = mul-le-mul-right limit (bits-high a h) in
+      omega (arith, within-bits n .0 l, limit-small)
+
+  -- the length as the code counts it: the digits, and the pads where the last group is not full
+  module _ (n : ℕ) {b g : ℕ} (eb : b ≡ bits a) (eg : g ≡ group a) where
+    pub length-full : (8 * n + (b - 1)) / b % g ≡ 0 → (8 * n + (b - 1)) / b ≡ writtenLength a n
+    unfolding writtenLength
+    length-full r =
+        let d : digitCount (bits a) n ≡ (8 * n + (b - 1)) / b = rw eb (ends.count-as (bits a) n) in
+        rw (d, ← eg, wanting-none g ((8 * n + (b - 1)) / b) r, add-zero)
+
+    pub length-padded : ((8 * n + (b - 1)) / b % g ≡ 0 → ⊥) → (8 * n + (b - 1)) / b + (g - (8 * n + (b - 1)) / b % g) ≡ writtenLength a n
+    unfolding writtenLength
+    length-padded r =
+        let d : digitCount (bits a) n ≡ (8 * n + (b - 1)) / b = rw eb (ends.count-as (bits a) n) in
+        rw (d, ← eg, wanting-some g ((8 * n + (b - 1)) / b) (rw eg (group-pos a h)) (omega (arith, r)))

@@ -1,3 +1,5 @@
 pub mod FrontLaws
 pub mod LengthLaws
 pub mod RunLaws
+pub mod Cuts
+pub mod Filling

@@ -1,7 +1,20 @@
 // The writer: the written form of a source, whole and as a stream by value.
+use alphabet::regroup::Cut;
+use answer::Count;
 use answer::Kind;
 use answer::Outcome;
 use answer::Place;
+ghost use mathlib.Core.Path.{_≡_};
+ghost use Prim.Native.Nat.{_+_, _-_, _*_, _/_, _%_, _^_, _<_, _≤_};
+ghost use lib.ListN.{length};
+ghost use lib.Seq.{paste};
+ghost use Rattle.alphabet.specs.Alphabet as sizes;
+ghost use Rattle.alphabet.specs.Table.{digitEntries};
+ghost use Rattle.reading.specs.Limit.{limit};
+ghost use Rattle.writing.specs.Front.{writtenLength, ending};
+ghost use Rattle.writing.specs.Machine as machine;
+ghost use Rattle.writing.specs.Stream as stream;
+ghost use Rattle.writing.specs.Contracts.{Sound, RanAs};
 
 // Whether a writer goes on, refused a byte for the limit, or is finished.
 pub enum Status {
@@ -39,4 +52,105 @@ pub enum Why {
     All,
     Limit,
     Room,
+}
+
+struct Ran {
+    held: u8,
+    why: Why,
+    taken: usize,
+    written: usize,
+}
+
+const LIMIT: usize = 16777216;
+
+// The longest source whose written form is within the limit, for digits of b bits.
+fn longest(b: usize) -> usize
+    requires { ⌜ b ≤ 6 ⌝ }
+    ensures { λ r. ⌜ r ≡ b * limit / 8 ⌝ }
+{
+    b * LIMIT / 8
+}
+
+// The smaller of two numbers.
+fn least(x: usize, y: usize) -> usize
+    ensures { λ r. ⌜ (r ≤ x) × (r ≤ y) × ((r < x) → (r ≡ y)) ⌝ }
+{
+    if x <= y { x } else { y }
+}
+
+// The length of the written form of n bytes.
+fn written_len(alphabet: usize, n: usize) -> usize
+    requires { ⌜ (alphabet < 6) × (writtenLength alphabet n ≤ limit) ⌝ }
+    ensures { λ r. ⌜ r ≡ writtenLength alphabet n ⌝ }
+{
+    let b = alphabet::sizes::bits(alphabet);
+    let g = alphabet::sizes::group(alphabet);
+    let d = (8 * n + (b - 1)) / b;
+    let last = d % g;
+    if last == 0 { d } else { d + (g - last) }
+}
+
+// A piece into room, byte after byte: the limit is where the loop ends, the room is asked at each byte.
+fn run(t: &[u8; 384], alphabet: usize, taken: usize, held: u8, piece: &[u8], out: &mut [u8]) -> Ran
+    requires { ⌜ (now t ≡ digitEntries) × Sound alphabet taken held ⌝ }
+    ensures { λ r. ⌜ RanAs (machine.run alphabet taken held (now (piece .entry)) (length (now (out .entry)))) r (now (out .entry)) (now (out .exit)) ⌝ }
+{
+    let b = alphabet::sizes::bits(alphabet);
+    let end = least(piece.len(), longest(b) - taken);
+    let mut few = 8 * taken % b;
+    let mut h = held;
+    let mut i: usize = 0;
+    let mut n: usize = 0;
+    while i < end {
+        match alphabet::regroup::split(b, few, h, piece[i]) {
+            Cut::One(v, left) => {
+                if n < out.len() {
+                    out[n] = alphabet::table::digit(t, alphabet, v);
+                    n += 1;
+                    h = left;
+                    few = few + 8 - b;
+                    i += 1;
+                } else {
+                    return Ran {
+                        held: h,
+                        why: Why::Room,
+                        taken: i,
+                        written: n,
+                    };
+                }
+            }
+            Cut::Two(v, w, left) => {
+                let m = n + 1;
+                if m < out.len() {
+                    out[n] = alphabet::table::digit(t, alphabet, v);
+                    out[m] = alphabet::table::digit(t, alphabet, w);
+                    n = m + 1;
+                    h = left;
+                    few = few + 8 - b - b;
+                    i += 1;
+                } else {
+                    return Ran {
+                        held: h,
+                        why: Why::Room,
+                        taken: i,
+                        written: n,
+                    };
+                }
+            }
+        }
+    }
+    if end < piece.len() {
+        return Ran {
+            held: h,
+            why: Why::Limit,
+            taken: i,
+            written: n,
+        };
+    }
+    Ran {
+        held: h,
+        why: Why::All,
+        taken: i,
+        written: n,
+    }
 }
