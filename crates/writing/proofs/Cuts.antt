@@ -26,6 +26,11 @@ pub record CutAs (b n held c : ℕ) (ds : List ℕ) (r left : ℕ) : Type 0 wher
   pub bits : 8 * (n + 1) % b ≡ r
   pub small : left < 2 ^ r
 
+-- what an answer of `split` says of its digits
+abbrev pub Says : ℕ → ℕ → ℕ → ℕ → Cut → Type 0
+Says b n held c (One v left) = CutAs b n held c (v ∷ []) (8 * n % b + 8 - b) left × (v < 2 ^ b)
+Says b n held c (Two v w left) = CutAs b n held c (v ∷ w ∷ []) (8 * n % b + 8 - b - b) left × (v < 2 ^ b) × (w < 2 ^ b) × (b + b ≤ 8 * n % b + 8)
+
 module _ (b n : ℕ) {held c : ℕ} (low : 4 ≤ b) (high : b ≤ 6) (small : held < 2 ^ (8 * n % b)) (byte : c < 256) where
   few : 8 * n % b < b
   few = mod-lt (8 * n) (omega arith)
@@ -78,15 +83,10 @@ module _ (b n : ℕ) {held c : ℕ} (low : 4 ≤ b) (high : b ≤ 6) (small : he
         small = rest-lt m ((held * 256 + c) % 2 ^ (b + m));
       }
 
-  -- what is said of the digits that an answer of `split` carries
-  abbrev Says : Cut → Type 0
-  Says (One v left) = CutAs b n held c (v ∷ []) (8 * n % b + 8 - b) left × (v < 2 ^ b)
-  Says (Two v w left) = CutAs b n held c (v ∷ w ∷ []) (8 * n % b + 8 - b - b) left × (v < 2 ^ b) × (w < 2 ^ b) × (b + b ≤ 8 * n % b + 8)
-
-  says : Says (cutUp b (8 * n % b) held c)
+  says : Says b n held c (cutUp b (8 * n % b) held c)
   says = go (ltb (8 * n % b + 8 - b) b) refl
     where
-      go : (t : Bool) → ltb (8 * n % b + 8 - b) b ≡ t → Says (cutUp b (8 * n % b) held c)
+      go : (t : Bool) → ltb (8 * n % b + 8 - b) b ≡ t → Says b n held c (cutUp b (8 * n % b) held c)
       go true t =
           let m : ℕ = 8 * n % b + 8 - b in
           let l : m < b = ltb-true m b t in
@@ -99,5 +99,5 @@ module _ (b n : ℕ) {held c : ℕ} (low : 4 ≤ b) (high : b ≤ 6) (small : he
           rw (cut-two b (8 * n % b) low high few small byte m e)
           (cut-as-two m e (omega (arith, few)), cut-first-lt b (8 * n % b) low high few small byte (b + m) e, cut-second-lt b (8 * n % b) low high few small byte m, omega arith)
 
-  pub says-of : (x : Cut) → x ≡ cutUp b (8 * n % b) held c → Says x
-  says-of x e = subst Says (sym e) says
+  pub says-of : (x : Cut) → x ≡ cutUp b (8 * n % b) held c → Says b n held c x
+  says-of x e = subst (Says b n held c) (sym e) says

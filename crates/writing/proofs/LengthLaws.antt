@@ -1,12 +1,15 @@
 -- The length of the written form of n bytes, and the limit in source bytes: the written form is within the limit exactly if the limit's digits
 -- have as many bits as the source. Assumes nothing.
 use Prim.Native.Nat.{ℕ, _+_, _-_, _*_, _/_, _%_, _^_, _<_, _≤_}
-use mathlib.Core.Path.{_≡_}
+use mathlib.Core.Path.{_≡_, refl}
 use mathlib.Core.Logic.{_↔_}
+use mathlib.Core.Bool.{Bool, true, false}
 use mathlib.Core.List.{List}
 use native.Mathlib.Nat.{mul-le-mul-right, add-zero}
 use native.Mathlib.Omega.{arith}
+use lib.Dec.{ltb}
 use lib.ListN.{length}
+use borrow.Author.Tests.{ltb-true, ltb-false}
 use Rattle.alphabet.specs.Alphabet.{bits, group}
 use Rattle.alphabet.specs.Digits.{digitCount}
 use Rattle.alphabet.specs.Written.{written}
@@ -31,6 +34,13 @@ module _ (a : ℕ) (h : a < 6) where
   -- the longest source
   pub within-most : (n : ℕ) → (writtenLength a n ≤ limit) ↔ (n ≤ bits a * limit / 8)
   within-most n = (λ l. omega (arith, within-bits n .0 l), λ l. within-bits n .1 (omega arith))
+
+  pub beyond-most : (n : ℕ) → bits a * limit / 8 < n → limit < writtenLength a n
+  beyond-most n l = go (ltb limit (writtenLength a n)) refl
+    where
+      go : (t : Bool) → ltb limit (writtenLength a n) ≡ t → limit < writtenLength a n
+      go true e = ltb-true limit (writtenLength a n) e
+      go false e = absurd (omega (arith, within-most n .0 (ltb-false limit (writtenLength a n) e)))
 
   pub shorter-within : (n m : ℕ) → n ≤ m → writtenLength a m ≤ limit → writtenLength a n ≤ limit
   shorter-within n m l w = within-most n .1 (omega (arith, within-most m .0 w))

@@ -3,3 +3,4 @@ pub mod LengthLaws
 pub mod RunLaws
 pub mod Cuts
 pub mod Filling
+pub mod Going
