@@ -15,7 +15,6 @@ use Rattle.alphabet.specs.Table.{digitEntries, digitIn}
 use Rattle.alphabet.specs.declared.regroup.Cut.{Cut}
 use Rattle.alphabet.specs.declared.regroup.Cut.the-variants.{One, Two}
 use Rattle.alphabet.proofs.AlphabetLaws.{bits-low, bits-high}
-use Rattle.alphabet.proofs.TableLaws.{digit-is}
 use Rattle.reading.specs.Limit.{limit}
 use Rattle.writing.specs.declared.Why.{Why}
 use Rattle.writing.specs.declared.Why.the-variants as W
@@ -23,6 +22,7 @@ use Rattle.writing.specs.Front.{writtenLength}
 use Rattle.writing.specs.Machine.{Run, stop, after, fullRuns, completes, keeps, onByte, run}
 use Rattle.writing.specs.Contracts.{Sound, RanAs}
 use Rattle.writing.proofs.LengthLaws.{within-most, beyond-most, shorter-within}
+use Rattle.writing.proofs.Lent.{digit-of}
 use Rattle.writing.proofs.Cuts.{CutAs, Says, says-of}
 use Rattle.writing.proofs.Filling.{Filling, fill-none, fill-store, fill-two, fill-stop}
 
@@ -125,8 +125,8 @@ module _ {t : List ℕ} {a taken held : ℕ} {piece out₀ : List ℕ} {b end : 
         says-of b (taken + i) (sizes .1) (sizes .2)
         (rw (← g .bits-are) (g .small)) l x (rw (← g .bits-are) e)
 
-    digit-of : {v x : ℕ} → v < 2 ^ b → x ≡ digitIn t a v → x ≡ digit a v
-    digit-of {v} l e = e ∙ ap (λ (d : List ℕ). digitIn d a v) (g .bounds .table) ∙ digit-is a v (g .bounds .known) (rw (← g .bounds .width) l)
+    stored : {v x : ℕ} → v < 2 ^ b → x ≡ digitIn t a v → x ≡ digit a v
+    stored l e = digit-of (g .bounds .table) (g .bounds .known) (g .bounds .width) l e
 
     pub took-one : {v left x : ℕ} → Says b (taken + i) h (getD piece i 0) (One v left) → n < length out → x ≡ digitIn t a v
         → Going t a taken held piece out₀ b end (set out n x) (few + 8 - b) left (i + 1) (n + 1)
@@ -137,7 +137,7 @@ module _ {t : List ℕ} {a taken held : ℕ} {piece out₀ : List ℕ} {b end : 
           within = omega arith;
           bits-are = ap (λ (k : ℕ). k + 8 - b) (g .bits-are) ∙ sym (s .0 .bits) ∙ ap (λ (k : ℕ). 8 * k % b) (add-assoc taken i 1);
           small = rw (g .bits-are) (s .0 .small);
-          fill = rw m (fill-store (g .fill) 1 (takes (s .0) (omega arith) ∙ rw (digit-of (s .1) e)) l);
+          fill = rw m (fill-store (g .fill) 1 (takes (s .0) (omega arith) ∙ rw (stored (s .1) e)) l);
         }
 
     pub took-two : {v w left x y : ℕ} → Says b (taken + i) h (getD piece i 0) (Two v w left) → n + 1 < length out → x ≡ digitIn t a v → y ≡ digitIn t a w
@@ -149,5 +149,5 @@ module _ {t : List ℕ} {a taken held : ℕ} {piece out₀ : List ℕ} {b end : 
           within = omega arith;
           bits-are = ap (λ (k : ℕ). k + 8 - b - b) (g .bits-are) ∙ sym (s .0 .bits) ∙ ap (λ (k : ℕ). 8 * k % b) (add-assoc taken i 1);
           small = rw (g .bits-are) (s .0 .small);
-          fill = rw m (fill-two (g .fill) (takes (s .0) (omega arith) ∙ rw (digit-of (s .1) e, digit-of (s .2) f)) l);
+          fill = rw m (fill-two (g .fill) (takes (s .0) (omega arith) ∙ rw (stored (s .1) e, stored (s .2) f)) l);
         }

@@ -1,6 +1,9 @@
 pub mod FrontLaws
 pub mod LengthLaws
 pub mod RunLaws
+pub mod Lent
 pub mod Cuts
 pub mod Filling
 pub mod Going
+pub mod EndingLaws
+pub mod SoundLaws

@@ -42,12 +42,12 @@ fitsStatus U.Open a n = true
 fitsStatus U.TooLong a n = ltb limit (writtenLength a (n + 1))
 fitsStatus U.Done a n = true
 
-unfoldable pub sound : Writer → Bool
-sound s =
-    ltb (s .alphabet) 6
-    && leb (writtenLength (s .alphabet) (s .taken)) limit
-    && ltb (s .held) (2 ^ (8 * s .taken % bits (s .alphabet)))
-    && fitsStatus (s .status) (s .alphabet) (s .taken)
+unfoldable pub soundBy : ℕ → ℕ → ℕ → Status → Bool
+soundBy a n held u =
+    ltb a 6 && (leb (writtenLength a n) limit && (ltb held (2 ^ (8 * n % bits a)) && fitsStatus u a n))
+
+abbrev pub sound : Writer → Bool
+sound s = soundBy (s .alphabet) (s .taken) (s .held) (s .status)
 
 -- what a call gives: the state, the answer, the source bytes taken and the text written
 pub record Turn : Type 0 where

@@ -6,7 +6,7 @@ use answer::Outcome;
 use answer::Place;
 ghost use mathlib.Core.Path.{_≡_};
 ghost use Prim.Native.Nat.{_+_, _-_, _*_, _/_, _%_, _^_, _<_, _≤_};
-ghost use lib.ListN.{length};
+ghost use lib.ListN.{length, replicate};
 ghost use lib.Seq.{paste};
 ghost use Rattle.alphabet.specs.Alphabet as sizes;
 ghost use Rattle.alphabet.specs.Table.{digitEntries};
@@ -152,5 +152,65 @@ fn run(t: &[u8; 384], alphabet: usize, taken: usize, held: u8, piece: &[u8], out
         why: Why::All,
         taken: i,
         written: n,
+    }
+}
+
+// The last digit and the pads, at a place of a buffer that has room for them.
+fn put_ending(t: &[u8; 384], alphabet: usize, taken: usize, held: u8, at: usize, out: &mut [u8])
+    requires { ⌜ (now t ≡ digitEntries) × Sound alphabet taken held ⌝ }
+    requires { ⌜ at + length (ending alphabet taken held) ≤ length (now out) ⌝ }
+    ensures { λ _. ⌜ now (out .exit) ≡ paste (now (out .entry)) at (ending alphabet taken held) (length (ending alphabet taken held)) ⌝ }
+{
+    let b = alphabet::sizes::bits(alphabet);
+    let few = 8 * taken % b;
+    if few == 0 {
+        return;
+    }
+    let pads = written_len(alphabet, taken) - 8 * taken / b - 1;
+    out[at] = alphabet::table::digit(t, alphabet, filled(held, b - few));
+    let next = at + 1;
+    put_pads(next, pads, out)
+}
+
+fn put_pads(at: usize, pads: usize, out: &mut [u8])
+    requires { ⌜ at + pads ≤ length (now out) ⌝ }
+    ensures { λ _. ⌜ now (out .exit) ≡ paste (now (out .entry)) at (replicate pads sizes.pad) pads ⌝ }
+{
+    let mut i: usize = 0;
+    while i < pads {
+        let k = at + i;
+        out[k] = 61;
+        i += 1;
+    }
+}
+
+// The bits held with w zero bits after them.
+fn filled(held: u8, w: usize) -> u8
+    requires { ⌜ (w ≤ 6) × (held * 2 ^ w < 64) ⌝ }
+    ensures { λ r. ⌜ r ≡ held * 2 ^ w ⌝ }
+{
+    ((held as usize) << w) as u8
+}
+
+// Whether calls give a state with these numbers; a refusal for the limit stands only after the longest source.
+fn sound(alphabet: usize, taken: usize, held: u8, status: Status) -> bool
+    ensures { λ r. ⌜ r ≡ stream.soundBy alphabet taken held status ⌝ }
+{
+    if 5 < alphabet {
+        return false;
+    }
+    let b = alphabet::sizes::bits(alphabet);
+    let most = longest(b);
+    if most < taken {
+        return false;
+    }
+    let few = 8 * taken % b;
+    if 0 < (held as usize) >> few {
+        return false;
+    }
+    match status {
+        Status::TooLong => taken == most,
+        Status::Open => true,
+        Status::Done => true,
     }
 }
