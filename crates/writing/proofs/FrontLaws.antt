@@ -15,7 +15,7 @@ use Rattle.alphabet.specs.Alphabet.{bits, digit}
 use Rattle.alphabet.specs.Written.{written}
 use Rattle.alphabet.proofs.BitLaws.{bits-length, unpack-append, pack-length}
 use Rattle.alphabet.proofs.AlphabetLaws.{bits-low}
-use Rattle.alphabet.proofs.Flow.{Flow}
+use Rattle.alphabet.proofs.Flow.{Flow, empty}
 use Rattle.alphabet.proofs.Cutting.{unpack-one, cut-flow, cut-start, flow-outs, flow-held, flow-bits}
 use Rattle.alphabet.proofs.Ends.{written-full, written-filled}
 use Rattle.writing.specs.Front.{full, front, heldOf, ending, rest}
@@ -25,6 +25,14 @@ module _ (b : ℕ) (pos : 0 < b) where
   pub full-flow : (src : List ℕ) → Flow 8 b src (full b src) (8 * length src % b) (heldOf b src)
   unfolding full heldOf
   full-flow src = cut-start 8 b pos src
+
+  pub full-none : full b [] ≡ []
+  unfolding full
+  full-none = flow-outs 8 b pos [] [] 0 0 pos (empty 8 b)
+
+  pub held-none : heldOf b [] ≡ 0
+  unfolding heldOf
+  held-none = flow-held 8 b pos [] [] 0 0 pos (empty 8 b)
 
   pub full-length : (src : List ℕ) → length (full b src) ≡ 8 * length src / b
   unfolding full
@@ -60,6 +68,10 @@ completes-length b n held c = pack-length b (fullRuns b n) (waiting b n held c)
 module _ (a : ℕ) (h : a < 6) where
   some-bits : 0 < bits a
   some-bits = omega (arith, bits-low a h)
+
+  pub front-none : front a [] ≡ []
+  unfolding front
+  front-none = rw (full-none (bits a) some-bits)
 
   pub front-length : (src : List ℕ) → length (front a src) ≡ 8 * length src / bits a
   unfolding front

@@ -7,3 +7,4 @@ pub mod Filling
 pub mod Going
 pub mod EndingLaws
 pub mod SoundLaws
+pub mod Moments
