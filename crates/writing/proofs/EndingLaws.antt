@@ -52,6 +52,9 @@ ending-length a n held h =
     let f : length (front a src) ≡ 8 * n / bits a = front-length a h src ∙ ap (λ (k : ℕ). 8 * k / bits a) l in
     omega (arith, length-append (front a src) (rest a src), ap length (front-rest a h src))
 
+pub needed : (a n held : ℕ) {b w : ℕ} → a < 6 → b ≡ bits a → w ≡ writtenLength a n → w - 8 * n / b ≡ length (ending a n held)
+needed a n held h eb ew = rw (eb, ew) (omega (arith, ending-length a n held h))
+
 -- the last digit's value is one of b bits
 filled-lt : (a n held : ℕ) → Sound a n held → held * 2 ^ (bits a - 8 * n % bits a) < 2 ^ bits a
 filled-lt a n held s =

@@ -8,3 +8,4 @@ pub mod Going
 pub mod EndingLaws
 pub mod SoundLaws
 pub mod Moments
+pub mod Promises

@@ -113,3 +113,19 @@ module _ (a : ℕ) (h : a < 6) where
           rw (e, f)
           (taken src c cs room (ltb-false room (fullRuns (bits a) (length src)) f)
           (rw same at (ih (rw (snoc-length src c) (ltb-false limit (writtenLength a (length src + 1)) e)))))
+
+-- from any numbers, a run takes no more than the piece has
+pub run-short : (a n held : ℕ) (piece : List ℕ) (room : ℕ) → run a n held piece room .took ≤ length piece
+unfolding run onByte
+run-short a n held [] room = zero-le
+run-short a n held (c ∷ cs) room =
+    go (ltb limit (writtenLength a (n + 1))) (ltb room (fullRuns (bits a) n)) (run-short a (n + 1) (keeps (bits a) n held c) cs (room - fullRuns (bits a) n))
+  where
+    next : Run
+    next = run a (n + 1) (keeps (bits a) n held c) cs (room - fullRuns (bits a) n)
+
+    go : (t u : Bool) → next .took ≤ length cs
+        → cond t (stop held W.Limit) (cond u (stop held W.Room) (after 1 (map (digit a) (completes (bits a) n held c)) next)) .took ≤ length (c ∷ cs)
+    go true u l = zero-le
+    go false true l = zero-le
+    go false false l = omega arith

@@ -1,6 +1,6 @@
 pub mod Front
 pub mod Machine
+pub mod Whole
 pub mod Stream
 pub mod Moment
-pub mod Whole
 pub mod Contracts
