@@ -48,7 +48,7 @@ ending-length a n held h =
     let l : length src ≡ n = length-replicate n 0 in
     let w : length (written a src) ≡ writtenLength a n = written-length a src ∙ ap (writtenLength a) l in
     let r : length (rest a src) ≡ length (ending a n held) =
-        ap (λ (k : ℕ). length (ending a k (heldOf (bits a) src))) l ∙ same-ending a n (heldOf (bits a) src) held in
+    ap (λ (k : ℕ). length (ending a k (heldOf (bits a) src))) l ∙ same-ending a n (heldOf (bits a) src) held in
     let f : length (front a src) ≡ 8 * n / bits a = front-length a h src ∙ ap (λ (k : ℕ). 8 * k / bits a) l in
     omega (arith, length-append (front a src) (rest a src), ap length (front-rest a h src))
 

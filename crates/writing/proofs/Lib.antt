@@ -9,3 +9,5 @@ pub mod EndingLaws
 pub mod SoundLaws
 pub mod Moments
 pub mod Promises
+pub mod Through
+pub mod WholeLaws

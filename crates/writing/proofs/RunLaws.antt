@@ -70,8 +70,7 @@ module _ (a : ℕ) (h : a < 6) where
         (omega (arith, y .0), subst (λ (n : ℕ). limit < writtenLength a n) e (y .1))
     same-why W.Room k y =
         let e : length (src ++ c ∷ []) + k + 1 ≡ length src + (1 + k) + 1 = omega (arith, snoc-length src c) in
-        let f : (src ++ c ∷ []) ++ take (k + 1) cs ≡ src ++ take (1 + k + 1) (c ∷ cs) = onward (k + 1) ∙ ap (λ (n : ℕ). src ++ take n (c ∷ cs)) (sym (add-assoc 1 k 1)) in
-        (
+        let f : (src ++ c ∷ []) ++ take (k + 1) cs ≡ src ++ take (1 + k + 1) (c ∷ cs) = onward (k + 1) ∙ ap (λ (n : ℕ). src ++ take n (c ∷ cs)) (sym (add-assoc 1 k 1)) in (
           omega (arith, y .0),
           subst (λ (n : ℕ). writtenLength a n ≤ limit) e (y .1),
           subst (λ (l : List ℕ). room + length (front a src) < length (front a l)) f (omega (arith, y .2, grows src c)),

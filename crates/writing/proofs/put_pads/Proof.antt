@@ -35,10 +35,12 @@ loop-less c = search needs
 loop-again : tie.Need-loop-again Inv-loop μ-loop
 loop-again c =
     let s = c .before .before in
-    let l = c .before .loop in
-    (omega arith, l .inv .1,
-    ap (λ (o : List ℕ). set o (s .args .at + l .i) pad) (l .inv .2) ∙ paste-pad (s .args .out .now) (s .args .at) (s .args .pads) (l .i) (l .inv .1) (c .loop-test .taken),
-    length-set (l .out) (s .args .at + l .i) 61 ∙ l .inv .3)
+    let l = c .before .loop in (
+      omega arith,
+      l .inv .1,
+      ap (λ (o : List ℕ). set o (s .args .at + l .i) pad) (l .inv .2) ∙ paste-pad (s .args .out .now) (s .args .at) (s .args .pads) (l .i) (l .inv .1) (c .loop-test .taken),
+      length-set (l .out) (s .args .at + l .i) 61 ∙ l .inv .3,
+    )
 
 same-length : tie.Need-same-length Inv-loop μ-loop
 same-length c = search needs
