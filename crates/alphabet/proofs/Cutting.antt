@@ -7,7 +7,7 @@ use mathlib.Core.List.{List, [], _∷_, _++_, append-assoc, append-nil}
 use native.Mathlib.Nat.{mod-lt, div-add-mod, mul-comm, mul-suc, mul-zero, add-zero, add-comm, div-eq-of-lt-le, add-mul, one-mul}
 use native.Mathlib.Omega.{arith}
 use lib.ListN.{length, take, drop, length-append, length-take, length-drop, take-append-drop}
-use lib.Seq.{take-at, drop-at, drop-drop}
+use lib.Seq.{take-at, drop-at, drop-drop, drop-append-add}
 use lib.Pow.{pow-add, pow-pos, shr-lt}
 use lib.Arith.{digits-lt}
 use Rattle.alphabet.specs.Bits.{bitsOf, valueOf, unpack, pack, zeros, Below}
@@ -109,3 +109,16 @@ module _ (w n : ℕ) {z : ℕ} (small : z < 2 ^ (w + n)) where
 
 pub drop-no-run : (w n : ℕ) {z : ℕ} → z < 2 ^ n → valueOf (drop (w * 0) (bitsOf n z)) ≡ z
 drop-no-run w n h = rw (mul-zero w) (value-bits n h)
+
+-- the bits left after a last byte are its low bits
+pub low-held : (b : ℕ) (xs : List ℕ) (c : ℕ) → 8 * (length xs + 1) % b ≤ 8 → c < 2 ^ (8 * (length xs + 1) % b)
+    → valueOf (drop (b * (8 * (length xs + 1) / b)) (unpack 8 (xs ++ c ∷ []))) ≡ c
+low-held b xs c l h =
+    let r : ℕ = 8 * (length xs + 1) % b in
+    let q : b * (8 * (length xs + 1) / b) + r ≡ 8 * (length xs + 1) = div-add-mod (8 * (length xs + 1)) b in
+    let e : b * (8 * (length xs + 1) / b) ≡ length (unpack 8 xs) + (8 - r) = omega (arith, unpack-length 8 xs) in
+    let w : 8 ≡ 8 - r + r = omega arith in
+    let s : bitsOf 8 c ≡ bitsOf (8 - r) (c / 2 ^ r) ++ bitsOf r c = ap (λ (k : ℕ). bitsOf k c) w ∙ bits-split (8 - r) r c in
+    rw
+    (e, unpack-append 8 xs (c ∷ []), unpack-one 8 c, drop-append-add (unpack 8 xs) (bitsOf 8 c) (8 - r), s, drop-at (bitsOf (8 - r) (c / 2 ^ r)) (bitsOf r c) (8 - r) (bits-length (8 - r) (c / 2 ^ r)))
+    (value-bits r h)

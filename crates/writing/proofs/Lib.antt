@@ -11,3 +11,4 @@ pub mod Moments
 pub mod Promises
 pub mod Through
 pub mod WholeLaws
+pub mod Reaching

@@ -125,7 +125,7 @@ as-why w s R x o o' a e = rw (a .held, a .why ∙ e, a .taken, a .written) (same
 
 -- ---- the cases as the code takes them, by the order in a call
 
-bad-order : (s : Writer) (t : Turn) → sound s ≡ false → inOrder s t ≡ unmoved s K.BadState
+pub bad-order : (s : Writer) (t : Turn) → sound s ≡ false → inOrder s t ≡ unmoved s K.BadState
 unfolding inOrder
 bad-order s t e = ap (λ (x : Bool). cond x (byStatus (s .status) s t) (unmoved s K.BadState)) e
 
@@ -134,15 +134,15 @@ unfolding inOrder
 in-order s t e f =
     ap (λ (x : Bool). cond x (byStatus (s .status) s t) (unmoved s K.BadState)) e ∙ ap (λ (v : Status). byStatus v s t) f
 
-long-order : (s : Writer) (t : Turn) → sound s ≡ true → s .status ≡ U.TooLong → inOrder s t ≡ unmoved s (K.TooLong (at (s .taken)))
+pub long-order : (s : Writer) (t : Turn) → sound s ≡ true → s .status ≡ U.TooLong → inOrder s t ≡ unmoved s (K.TooLong (at (s .taken)))
 unfolding byStatus
 long-order s t e f = in-order s t e f
 
-done-order : (s : Writer) (t : Turn) → sound s ≡ true → s .status ≡ U.Done → inOrder s t ≡ unmoved s K.Finished
+pub done-order : (s : Writer) (t : Turn) → sound s ≡ true → s .status ≡ U.Done → inOrder s t ≡ unmoved s K.Finished
 unfolding byStatus
 done-order s t e f = in-order s t e f
 
-open-order : (s : Writer) (t : Turn) → sound s ≡ true → s .status ≡ U.Open → inOrder s t ≡ t
+pub open-order : (s : Writer) (t : Turn) → sound s ≡ true → s .status ≡ U.Open → inOrder s t ≡ t
 unfolding byStatus
 open-order s t e f = in-order s t e f
 
