@@ -12,3 +12,5 @@ pub mod Promises
 pub mod Through
 pub mod WholeLaws
 pub mod Reaching
+pub mod Answers
+pub mod Determined

@@ -129,7 +129,7 @@ pub bad-order : (s : Writer) (t : Turn) → sound s ≡ false → inOrder s t �
 unfolding inOrder
 bad-order s t e = ap (λ (x : Bool). cond x (byStatus (s .status) s t) (unmoved s K.BadState)) e
 
-in-order : (s : Writer) (t : Turn) {u : Status} → sound s ≡ true → s .status ≡ u → inOrder s t ≡ byStatus u s t
+pub in-order : (s : Writer) (t : Turn) {u : Status} → sound s ≡ true → s .status ≡ u → inOrder s t ≡ byStatus u s t
 unfolding inOrder
 in-order s t e f =
     ap (λ (x : Bool). cond x (byStatus (s .status) s t) (unmoved s K.BadState)) e ∙ ap (λ (v : Status). byStatus v s t) f
