@@ -14,3 +14,4 @@ pub mod WholeLaws
 pub mod Reaching
 pub mod Answers
 pub mod Determined
+pub mod Steps

@@ -100,7 +100,7 @@ module _ {s : Writer} {src text : List ℕ} (m : After s src text) where
       by-why W.Limit y = moved-after U.TooLong refl (λ e. y .1)
       by-why W.Room y = moved-after U.Open refl (λ e. no-long refl e)
 
-  ran-as : (piece : List ℕ) (room : ℕ) → RunAs (s .alphabet) src piece room (ranOf s piece room)
+  pub ran-as : (piece : List ℕ) (room : ℕ) → RunAs (s .alphabet) src piece room (ranOf s piece room)
   unfolding ranOf
   ran-as piece room = rw (m .taken, m .held) (run-means (s .alphabet) (m .known) src piece room (source-within m))
 

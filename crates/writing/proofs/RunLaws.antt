@@ -53,8 +53,8 @@ module _ (a : ℕ) (h : a < 6) where
       }
 
   -- the front grows by the digits that a byte completes
-  grows : (src : List ℕ) (c : ℕ) → length (front a (src ++ c ∷ [])) ≡ length (front a src) + fullRuns (bits a) (length src)
-  grows src c =
+  pub front-more : (src : List ℕ) (c : ℕ) → length (front a (src ++ c ∷ [])) ≡ length (front a src) + fullRuns (bits a) (length src)
+  front-more src c =
       ap length (front-snoc a h src c)
       ∙ simp length-append
       (rw (length-map (completes (bits a) (length src) (heldOf (bits a) src) c) (digit a), completes-length (bits a) (length src) (heldOf (bits a) src) c))
@@ -73,7 +73,7 @@ module _ (a : ℕ) (h : a < 6) where
         let f : (src ++ c ∷ []) ++ take (k + 1) cs ≡ src ++ take (1 + k + 1) (c ∷ cs) = onward (k + 1) ∙ ap (λ (n : ℕ). src ++ take n (c ∷ cs)) (sym (add-assoc 1 k 1)) in (
           omega (arith, y .0),
           subst (λ (n : ℕ). writtenLength a n ≤ limit) e (y .1),
-          subst (λ (l : List ℕ). room + length (front a src) < length (front a l)) f (omega (arith, y .2, grows src c)),
+          subst (λ (l : List ℕ). room + length (front a src) < length (front a l)) f (omega (arith, y .2, front-more src c)),
         )
 
     taken : {R : Run} → RunAs a (src ++ c ∷ []) cs (room - fullRuns (bits a) (length src)) R
@@ -107,7 +107,7 @@ module _ (a : ℕ) (h : a < 6) where
       go true e u f ih = rw e (stopped src (c ∷ cs) room W.Limit l (omega arith, rw add-zero (ltb-true _ _ e)))
       go false e true f ih =
           rw (e, f)
-          (stopped src (c ∷ cs) room W.Room l (omega arith, rw add-zero (ltb-false limit (writtenLength a (length src + 1)) e), omega (arith, grows src c, ltb-true room (fullRuns (bits a) (length src)) f)))
+          (stopped src (c ∷ cs) room W.Room l (omega arith, rw add-zero (ltb-false limit (writtenLength a (length src + 1)) e), omega (arith, front-more src c, ltb-true room (fullRuns (bits a) (length src)) f)))
       go false e false f ih =
           rw (e, f)
           (taken src c cs room (ltb-false room (fullRuns (bits a) (length src)) f)
