@@ -36,7 +36,7 @@ module _ (b n : ℕ) {held c : ℕ} (low : 4 ≤ b) (high : b ≤ 6) (small : he
   few = mod-lt (8 * n) (omega arith)
 
   -- the bits held and the byte's, as one number
-  waiting-is : waiting b n held c ≡ bitsOf (8 * n % b + 8) (held * 256 + c)
+  pub waiting-is : waiting b n held c ≡ bitsOf (8 * n % b + 8) (held * 256 + c)
   unfolding waiting
   waiting-is = sym (bits-join (8 * n % b) 8 held byte)
 

@@ -15,3 +15,4 @@ pub mod Reaching
 pub mod Answers
 pub mod Determined
 pub mod Steps
+pub mod SharedStart
