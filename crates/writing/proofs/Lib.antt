@@ -8,6 +8,7 @@ pub mod Going
 pub mod EndingLaws
 pub mod SoundLaws
 pub mod Moments
+pub mod NumberLaws
 pub mod Promises
 pub mod Through
 pub mod WholeLaws

@@ -27,6 +27,7 @@ use Rattle.writing.specs.Stream.{at, count, sound, Turn, unmoved, closed
 use Rattle.writing.specs.Moment.{After}
 use Rattle.writing.specs.Whole.{over}
 use Rattle.writing.specs.Contracts.{RanAs, given, asStepped, statusBy, outcomeBy, ranAs, opened, ClosedAs, handedOut, SteppedAs, FinishedAs}
+use Rattle.writing.proofs.NumberLaws.{step-numbers, finish-numbers}
 use Rattle.writing.proofs.Moments.{step-moment, finish-moment}
 use Rattle.writing.proofs.EndingLaws.{paste-front}
 
@@ -86,6 +87,7 @@ step-promise s piece o o' r e b =
     record {
       result = e;
       buffer = b;
+      answer = rw e (step-numbers s piece (length o));
       moment = λ src text m.
           rw (read-off (stepOf s piece (length o)) r o o' (step-counts s piece (length o)) e b, e) (step-moment m piece (length o));
     }
@@ -96,6 +98,7 @@ finish-promise s o o' r e b =
     record {
       result = e;
       buffer = b;
+      answer = rw e (finish-numbers s (length o));
       moment = λ src text m. rw (read-off (finishOf s (length o)) r o o' (finish-counts s (length o)) e b, e) (finish-moment m (length o));
     }
 

@@ -95,7 +95,7 @@ module _ (a n held : ℕ) (s : Sound a n held) where
       let w : Source a n held = source-of a n held s in
       let c = step (started a (s .known)) (w .source) (w .bytes) (length (front a (w .source))) in
       let e : stepOf (fresh a) (w .source) (length (front a (w .source))) .state ≡ opened a n held =
-          through-state a (s .known) (w .source) (rw (w .long) (s .within)) ∙ rw (w .long, w .left) in
+      through-state a (s .known) (w .source) (rw (w .long) (s .within)) ∙ rw (w .long, w .left) in
       subst Reachable e (record { source = _; text = _; calls = c })
 
   passed : sound (opened a n held) ≡ true
@@ -108,8 +108,8 @@ module _ (a n held : ℕ) (s : Sound a n held) where
       let r : Reachable (opened a n held) = reached-open in
       let text : List ℕ = ending a n held in
       let e : finishOf (opened a n held) (length text) .state ≡ closed (opened a n held) =
-          ap (λ (x : Turn). x .state) (open-order (opened a n held) (close (opened a n held) text (length text)) passed refl)
-          ∙ rw (le-ltb (length text) (length text) (omega arith)) in
+      ap (λ (x : Turn). x .state) (open-order (opened a n held) (close (opened a n held) text (length text)) passed refl)
+      ∙ rw (le-ltb (length text) (length text) (omega arith)) in
       subst Reachable e (record { source = _; text = _; calls = finish (r .calls) (length text) })
 
   -- a byte past the limit
@@ -120,9 +120,9 @@ module _ (a n held : ℕ) (s : Sound a n held) where
       let R : Run = run a n held (0 ∷ []) 0 in
       let y : R .why ≡ W.Limit = rw (lt-ltb limit (writtenLength a (n + 1)) l) in
       let e : stepOf (opened a n held) (0 ∷ []) 0 .state ≡ record { alphabet = a; taken = n; held = held; status = U.TooLong } =
-          ap (λ (x : Turn). x .state) (open-order (opened a n held) (byWhy (R .why) (opened a n held) R) passed refl)
-          ∙ state-by W.Limit (opened a n held) R y
-          ∙ rw (lt-ltb limit (writtenLength a (n + 1)) l, add-zero) in
+      ap (λ (x : Turn). x .state) (open-order (opened a n held) (byWhy (R .why) (opened a n held) R) passed refl)
+      ∙ state-by W.Limit (opened a n held) R y
+      ∙ rw (lt-ltb limit (writtenLength a (n + 1)) l, add-zero) in
       subst Reachable e (record { source = _; text = _; calls = step (r .calls) (0 ∷ []) (omega arith, tt) 0 })
 
 -- ---- both ways

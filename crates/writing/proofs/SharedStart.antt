@@ -28,7 +28,7 @@ use Rattle.writing.proofs.FrontLaws.{full-flow, front-snoc, front-rest}
 use Rattle.writing.proofs.Cuts.{waiting-is}
 use Rattle.writing.proofs.Through.{Grows, grows}
 use Rattle.writing.proofs.Moments.{moments}
-use Rattle.writing.proofs.Steps.{open-text}
+use Rattle.writing.proofs.Steps.{front-text}
 
 -- ---- the next digit
 
@@ -68,7 +68,7 @@ module _ (b n : ℕ) {held : ℕ} (low : 4 ≤ b) (high : b ≤ 6) (small : held
       let m : ℕ = 8 * n % b + 8 - b in
       let w : 8 ≡ 8 - m + m = omega (arith, few) in
       let e : held * 256 ≡ held * 2 ^ (8 - m) * 2 ^ m =
-          ap (λ (k : ℕ). held * 2 ^ k) w ∙ ap (λ (k : ℕ). held * k) (pow-add 2 (8 - m) m) ∙ sym (mul-assoc held (2 ^ (8 - m)) (2 ^ m)) in
+      ap (λ (k : ℕ). held * 2 ^ k) w ∙ ap (λ (k : ℕ). held * k) (pow-add 2 (8 - m) m) ∙ sym (mul-assoc held (2 ^ (8 - m)) (2 ^ m)) in
       let zeros : (held * 256 + 0) / 2 ^ m ≡ held * 2 ^ (8 - m) + 0 / 2 ^ m = rw e (mul-add-div-right (pow-pos m) (held * 2 ^ (8 - m)) 0) in
       let ones : (held * 256 + 255) / 2 ^ m ≡ held * 2 ^ (8 - m) + 255 / 2 ^ m = rw e (mul-add-div-right (pow-pos m) (held * 2 ^ (8 - m)) 255) in
       let p : 2 ^ m ≤ 2 ^ 7 = pow-mono {j = 7} (omega (arith, few)) in
@@ -90,9 +90,9 @@ module _ (a : ℕ) (h : a < 6) (src : List ℕ) where
       let v : ℕ = next (bits a) (length src) (heldOf (bits a) src) c in
       let f = first-of c l in
       let w : written a (src ++ c ∷ []) ≡ front a src ++ digit a v ∷ (map (digit a) (f .more) ++ rest a (src ++ c ∷ [])) =
-          sym (front-rest a h (src ++ c ∷ []))
-          ∙ ap (λ (x : List ℕ). x ++ rest a (src ++ c ∷ [])) (front-snoc a h src c ∙ ap (λ (x : List ℕ). front a src ++ map (digit a) x) (f .begins))
-          ∙ append-assoc (front a src) (digit a v ∷ map (digit a) (f .more)) (rest a (src ++ c ∷ [])) in
+      sym (front-rest a h (src ++ c ∷ []))
+      ∙ ap (λ (x : List ℕ). x ++ rest a (src ++ c ∷ [])) (front-snoc a h src c ∙ ap (λ (x : List ℕ). front a src ++ map (digit a) x) (f .begins))
+      ∙ append-assoc (front a src) (digit a v ∷ map (digit a) (f .more)) (rest a (src ++ c ∷ [])) in
       rw w (getD-append-seam (front a src) (digit a v) (map (digit a) (f .more) ++ rest a (src ++ c ∷ [])) 0)
 
   -- the next digits after a byte of zeros and one of ones are two
@@ -131,12 +131,12 @@ module _ (a : ℕ) (h : a < 6) (src : List ℕ) where
           let x : Begins other (written a (src ++ [])) = s [] tt in
           let y : Begins (front a src) (written a (src ++ [])) = front-shared [] tt in
           let t : take (length other) (front a src) ≡ other =
-              sym (take-append-le (length other) (front a src) (y .rest) l) ∙ ap (take (length other)) (sym (y .whole-is) ∙ x .whole-is) ∙ take-at other (x .rest) (length other) refl in
+          sym (take-append-le (length other) (front a src) (y .rest) l) ∙ ap (take (length other)) (sym (y .whole-is) ∙ x .whole-is) ∙ take-at other (x .rest) (length other) refl in
           record { rest = drop (length other) (front a src); whole-is = sym (take-append-drop (length other) (front a src)) ∙ ap (λ (z : List ℕ). z ++ drop (length other) (front a src)) t }
 
   pub front-is-longest-shared : LongestShared a src (front a src)
   front-is-longest-shared = record { shared = front-shared; longest = front-longest }
 
--- at each moment of an open writer, the text handed out is exactly the longest start that the written forms of all continuations share
-pub text-is-longest-shared : {src t : List ℕ} {s : Writer} → Calls src t s → s .status ≡ U.Open → LongestShared (s .alphabet) src t
-text-is-longest-shared {src} {t} {s} c e = rw (open-text c e) (front-is-longest-shared (s .alphabet) (moments c .known) src)
+-- at each moment before a finish, the text handed out is exactly the longest start that the written forms of all continuations share
+pub text-is-longest-shared : {src t : List ℕ} {s : Writer} → Calls src t s → (s .status ≡ U.Done → ⊥) → LongestShared (s .alphabet) src t
+text-is-longest-shared {src} {t} {s} c e = rw (front-text c e) (front-is-longest-shared (s .alphabet) (moments c .known) src)

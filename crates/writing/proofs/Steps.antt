@@ -82,6 +82,18 @@ module _ {s : Writer} {src text : List ℕ} (m : After s src text) (o : s .statu
       other (too-long e t l) f = e
       other (no-room e t l r) f = absurd (omega (arith, f .1))
 
+-- a refusal with 2 is kept in the state, and its position is the bytes taken
+pub refusal-kept : {s : Writer} {src text : List ℕ} (m : After s src text) (o : s .status ≡ U.Open) (piece : List ℕ) (room : ℕ)
+    → told (stepOf s piece room .outcome) .answer ≡ 2
+    → (stepOf s piece room .state .status ≡ U.TooLong) × (told (stepOf s piece room .outcome) .position ≡ stepOf s piece room .state .taken)
+unfolding byWhy
+refusal-kept {s} m o piece room = rw (step-is m o piece room) (go (ranOf s piece room .why) (ranOf s piece room))
+  where
+    go : (w : Why) (R : Run) → told (byWhy w s R .outcome) .answer ≡ 2 → (byWhy w s R .state .status ≡ U.TooLong) × (told (byWhy w s R .outcome) .position ≡ byWhy w s R .state .taken)
+    go W.All R e = absurd (omega (arith, ap (λ (t : Told). t .answer) (told-accepted (at (s .taken + R .took)) (count (length (R .wrote))))))
+    go W.Limit R e = (refl, ap (λ (t : Told). t .position) (told-long (at (s .taken + R .took)) (count (length (R .wrote)))))
+    go W.Room R e = absurd (omega (arith, ap (λ (t : Told). t .answer) (told-room (at (s .taken + R .took)) (count (length (R .wrote))))))
+
 -- with room for two digits and a byte offered, a step takes one or refuses it with 2
 pub takes-or-refuses : {s : Writer} {src text : List ℕ} (m : After s src text) (o : s .status ≡ U.Open) (c : ℕ) (cs : List ℕ) (room : ℕ) → 2 ≤ room
     → (0 < stepOf s (c ∷ cs) room .took) ⊎ (told (stepOf s (c ∷ cs) room .outcome) .answer ≡ 2)
@@ -99,16 +111,20 @@ same-by-any-cutting {src} {t} {u} {s} {r} c d e f =
     let m : After s src t = moments c in
     let w : After r src u = moments d in
     let n : s .taken ≡ r .taken = m .taken ∙ sym (w .taken) in
-    let h : s .held ≡ r .held = m .held ∙ ap (λ (a : ℕ). heldOf (bits a) src) e ∙ sym (w .held) in
-    (
+    let h : s .held ≡ r .held = m .held ∙ ap (λ (a : ℕ). heldOf (bits a) src) e ∙ sym (w .held) in (
       λ i. record { alphabet = e i; taken = n i; held = h i; status = f i },
       m .text-is ∙ ap (λ (a : ℕ). handed (s .status) a src) e ∙ ap (λ (v : Status). handed v (r .alphabet) src) f ∙ sym (w .text-is),
     )
 
--- the text of an open writer is the front of its source, and that of a finished one the whole written form
-pub open-text : {src t : List ℕ} {s : Writer} → Calls src t s → s .status ≡ U.Open → t ≡ front (s .alphabet) src
+-- until a finish the text is the front of the source, and after it the whole written form
+pub front-text : {src t : List ℕ} {s : Writer} → Calls src t s → (s .status ≡ U.Done → ⊥) → t ≡ front (s .alphabet) src
 unfolding handed
-open-text {src} {t} {s} c e = moments c .text-is ∙ ap (λ (v : Status). handed v (s .alphabet) src) e
+front-text {src} {t} {s} c n = moments c .text-is ∙ go (s .status) n
+  where
+    go : (u : Status) → (u ≡ U.Done → ⊥) → handed u (s .alphabet) src ≡ front (s .alphabet) src
+    go U.Open f = refl
+    go U.TooLong f = refl
+    go U.Done f = absurd (f refl)
 
 pub finished-text : {src t : List ℕ} {s : Writer} → Calls src t s → s .status ≡ U.Done → t ≡ written (s .alphabet) src
 unfolding handed

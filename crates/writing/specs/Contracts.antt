@@ -13,6 +13,7 @@ use Rattle.reading.specs.Limit.{limit}
 use Rattle.writing.specs.Front.{writtenLength, ending}
 use Rattle.writing.specs.Machine.{Run}
 use Rattle.writing.specs.Stream.{at, count, Turn, close, stepOf, finishOf}
+use Rattle.writing.specs.Numbers.{stepNumbers, finishNumbers}
 use Rattle.writing.specs.Moment.{After}
 use Rattle.writing.specs.Whole.{over, writeOf}
 use Rattle.writing.specs.declared.Why.{Why}
@@ -78,12 +79,14 @@ handedOut r o' = take (told (r .told .outcome) .count) o'
 pub record SteppedAs (s : Writer) (piece o o' : List ℕ) (r : Stepped) : Type 0 where
   pub result : r ≡ asStepped (stepOf s piece (length o))
   pub buffer : o' ≡ over (stepOf s piece (length o) .wrote) o
+  pub answer : told (r .told .outcome) ≡ stepNumbers s piece (length o)
   -- after any source, the state and the text handed out are those of the source with what was taken
   pub moment : (src text : List ℕ) → After s src text → After (r .state) (src ++ take (r .told .taken .0) piece) (text ++ handedOut r o')
 
 pub record FinishedAs (s : Writer) (o o' : List ℕ) (r : Stepped) : Type 0 where
   pub result : r ≡ asStepped (finishOf s (length o))
   pub buffer : o' ≡ over (finishOf s (length o) .wrote) o
+  pub answer : told (r .told .outcome) ≡ finishNumbers s (length o)
   -- after any source, the text handed out is the whole written form where the stream is finished, else as it was
   pub moment : (src text : List ℕ) → After s src text → After (r .state) src (text ++ handedOut r o')
 
