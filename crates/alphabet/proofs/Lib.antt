@@ -22,3 +22,5 @@ pub mod StepLaws
 pub mod SpareBits
 pub mod Leaving
 pub mod HexSizes
+pub mod Cutting
+pub mod Ends

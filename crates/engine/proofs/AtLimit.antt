@@ -80,7 +80,7 @@ fresh-ready a m l = record { sound = fresh-sound a; within = omega arith }
 pub front-length : (n : ℕ) (l : List ℕ) → n < length l → n ≡ length (take n l)
 front-length n l h = omega (arith, length-take n l)
 
-pub small-product : (a d : ℕ) → a < 6 → d ≤ limit → bits a * d < 2 ^ 32
+pub small-product : (a d : ℕ) → a < 6 → d ≤ limit → bits a * d < 2 ^ 40
 small-product a d h l = omega (arith, mul-le-mul-right d (bits-high a h), limit-small)
 
 pub one-shifted : (b d : ℕ) → (1 * 2 ^ (b * d % 8)) % 2 ^ 64 ≡ 2 ^ (b * d % 8)

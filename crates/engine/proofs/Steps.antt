@@ -22,16 +22,16 @@ use Rattle.engine.specs.Meaning.{stateOf, Fit, unpaddedEnd}
 
 module _ (a : ℕ) (h : a < 6) (k : Core) (f : Fit a k) where
   -- the sums of a state fit their types
-  pub product-fits : bits a * k .digits < 2 ^ 32
+  pub product-fits : bits a * k .digits < 2 ^ 40
   product-fits = omega (arith, mul-le-mul-right (k .digits) (bits-high a h), f .digits, f .taken, limit-small)
 
-  pub taken-fits : k .taken + 1 < 2 ^ 32
+  pub taken-fits : k .taken + 1 < 2 ^ 40
   taken-fits = omega (arith, f .taken, limit-small)
 
-  pub digits-fit : k .digits + 1 < 2 ^ 32
+  pub digits-fit : k .digits + 1 < 2 ^ 40
   digits-fit = omega (arith, f .digits, f .taken, limit-small)
 
-  pub pads-fit : k .pads + 1 < 2 ^ 32
+  pub pads-fit : k .pads + 1 < 2 ^ 40
   pads-fit = omega (arith, f .pads, f .taken, limit-small)
 
   module _ {v : ℕ} (l : v < 2 ^ bits a) (p : k .pads ≤ 0) where

@@ -1,4 +1,4 @@
--- What is known of the limit: it is a multiple of eight, and far below 2^32. The only file, beside the computed
+-- What is known of the limit: it is a multiple of eight, and at most 2^32, so that sums have room to 2^40. The only file, beside the computed
 -- check of the known texts, that looks at its value. Assumes nothing.
 use Prim.Native.Nat.{_*_, _/_, _%_, _^_, _≤_}
 use mathlib.Core.Path.{_≡_, refl}
@@ -9,7 +9,7 @@ pub limit-whole : limit % 8 ≡ 0
 unfolding limit
 limit-whole = refl
 
-pub limit-small : limit ≤ 2 ^ 28
+pub limit-small : limit ≤ 2 ^ 32
 unfolding limit
 limit-small = lit≤ tt
 

@@ -1,0 +1,124 @@
+-- Cutting a string of bits into runs of b bits: what a flow has given and holds is settled by what went in, and the digits of bytes are those
+-- of the full runs and the last run filled with zero bits. Assumes nothing.
+use Prim.Native.Nat.{ℕ, zero, suc, _+_, _-_, _*_, _/_, _%_, _^_, _<_, _≤_}
+use mathlib.Core.Path.{_≡_, refl, sym, ap, _∙_, subst}
+use mathlib.Core.Bool.{Bool}
+use mathlib.Core.List.{List, [], _∷_, _++_, append-assoc, append-nil}
+use native.Mathlib.Nat.{mod-lt, div-add-mod, mul-comm, mul-suc, mul-zero, add-zero, add-comm, div-eq-of-lt-le, add-mul, one-mul}
+use native.Mathlib.Omega.{arith}
+use lib.ListN.{length, take, drop, length-append, length-take, length-drop, take-append-drop}
+use lib.Seq.{take-at, drop-at, drop-drop, drop-append-add}
+use lib.Pow.{pow-add, pow-pos, shr-lt}
+use lib.Arith.{digits-lt}
+use Rattle.alphabet.specs.Bits.{bitsOf, valueOf, unpack, pack, zeros, Below}
+use Rattle.alphabet.specs.Digits.{digitsOf}
+use Rattle.alphabet.proofs.BitLaws.{bits-length, bits-split, bits-mod, bits-join, bits-zero, bits-value-at, value-lt, value-bits, unpack-append, unpack-length, pack-length, pack-below, unpack-front, below-snoc}
+use Rattle.alphabet.proofs.DigitLaws.{Spells, spell-digits}
+use Rattle.alphabet.proofs.Flow.{Flow, out-is}
+
+pub below-append : (m : ℕ) (xs ys : List ℕ) → Below m xs → Below m ys → Below m (xs ++ ys)
+below-append m [] ys h k = k
+below-append m (x ∷ xs) ys h k = (h .0, below-append m xs ys (h .1) k)
+
+pub unpack-one : (w x : ℕ) → unpack w (x ∷ []) ≡ bitsOf w x
+unfolding unpack
+unpack-one w x = append-nil (bitsOf w x)
+
+module _ (m w : ℕ) (pos : 0 < w) where
+  -- the bits after what has come out, cut: their full runs come out too, and the rest is held
+  pub cut-flow : (ins outs : List ℕ) (left : List Bool) → Below (2 ^ w) outs → unpack m ins ≡ unpack w outs ++ left
+      → Flow m w ins (outs ++ pack w (length left / w) left) (length left % w) (valueOf (drop (w * (length left / w)) left))
+  cut-flow ins outs left h e =
+      let k : ℕ = length left / w in
+      let s : w * k + length left % w ≡ length left = div-add-mod (length left) w in
+      let l : length (drop (w * k) left) ≡ length left % w = length-drop (w * k) left ∙ omega arith in
+      record {
+        small = rw l at (value-lt (drop (w * k) left));
+        below = below-append (2 ^ w) outs (pack w k left) h (pack-below w k left);
+        same =
+            e
+            ∙ rw (unpack-append w outs (pack w k left), unpack-front w k left (omega arith), bits-value-at (length left % w) (drop (w * k) left) l, append-assoc, take-append-drop (w * k) left);
+      }
+
+  pub cut-start : (ins : List ℕ) → Flow m w ins (pack w (m * length ins / w) (unpack m ins)) (m * length ins % w) (valueOf (drop (w * (m * length ins / w)) (unpack m ins)))
+  unfolding unpack
+  cut-start ins = rw (unpack-length m ins) at (cut-flow ins [] (unpack m ins) tt refl)
+
+  pub flow-length : (ins outs : List ℕ) (r held : ℕ) → Flow m w ins outs r held → m * length ins ≡ w * length outs + r
+  flow-length ins outs r held f = simp (length-append, unpack-length, bits-length) at (ap length (f .same))
+
+  pub flow-count : (ins outs : List ℕ) (r held : ℕ) → r < w → Flow m w ins outs r held → m * length ins / w ≡ length outs
+  flow-count ins outs r held h f =
+      let e : m * length ins ≡ w * length outs + r = flow-length ins outs r held f in
+      let c : w * length outs ≡ length outs * w = mul-comm w (length outs) in
+      div-eq-of-lt-le w (omega arith) (omega (arith, add-mul (length outs) 1 w, one-mul w))
+
+  -- the bits held are fewer than a run's: how many there are, what they are, and what has come out, by what went in
+  pub flow-outs : (ins outs : List ℕ) (r held : ℕ) → r < w → Flow m w ins outs r held → pack w (m * length ins / w) (unpack m ins) ≡ outs
+  flow-outs ins outs r held h f = rw (flow-count ins outs r held h f) (out-is m w ins outs r held f)
+
+  pub flow-held : (ins outs : List ℕ) (r held : ℕ) → r < w → Flow m w ins outs r held → valueOf (drop (w * (m * length ins / w)) (unpack m ins)) ≡ held
+  flow-held ins outs r held h f =
+      rw (flow-count ins outs r held h f, f .same, drop-at (unpack w outs) (bitsOf r held) (w * length outs) (unpack-length w outs)) (value-bits r (f .small))
+
+  pub flow-bits : (ins outs : List ℕ) (r held : ℕ) → r < w → Flow m w ins outs r held → m * length ins % w ≡ r
+  flow-bits ins outs r held h f =
+      let q : w * (m * length ins / w) + m * length ins % w ≡ m * length ins = div-add-mod (m * length ins) w in
+      omega (arith, flow-length ins outs r held f, ap (λ (k : ℕ). w * k) (flow-count ins outs r held h f))
+
+module _ (b : ℕ) (src outs : List ℕ) where
+  -- no bits are left: the digits are those that have come out
+  pub digits-full : 0 < b → (held : ℕ) → Flow 8 b src outs 0 held → digitsOf b src ≡ outs
+  unfolding bitsOf
+  digits-full h held f =
+      spell-digits b outs src (f .below) (record { spare = 0; few = h; same = sym (f .same ∙ append-nil (unpack b outs)) ∙ sym (append-nil (unpack 8 src)) })
+
+  -- r bits are left: one digit more, its run filled with zero bits on the right
+  pub digits-filled : (r held : ℕ) → 0 < r → r < b → Flow 8 b src outs r held → digitsOf b src ≡ outs ++ held * 2 ^ (b - r) ∷ []
+  digits-filled r held p h f =
+      let z : ℕ = held * 2 ^ (b - r) in
+      let w : r + (b - r) ≡ b = omega arith in
+      let l : z < 2 ^ b = subst (λ (k : ℕ). z < k) (sym (pow-add 2 r (b - r)) ∙ ap (λ (k : ℕ). 2 ^ k) w) (subst (λ (k : ℕ). k < 2 ^ r * 2 ^ (b - r)) (add-zero z) (digits-lt (f .small) (pow-pos (b - r)))) in
+      let s : bitsOf b z ≡ bitsOf r held ++ zeros (b - r) =
+      ap (λ (k : ℕ). bitsOf k z) (sym w) ∙ ap (bitsOf (r + (b - r))) (sym (add-zero z)) ∙ bits-join r (b - r) held (pow-pos (b - r)) ∙ ap (λ (y : List Bool). bitsOf r held ++ y) (bits-zero (b - r)) in
+      spell-digits b (outs ++ z ∷ []) src (below-snoc (2 ^ b) outs (f .below) l)
+      (record { spare = b - r; few = omega arith; same = rw (unpack-append b outs (z ∷ []), unpack-one b z, s, ← append-assoc, ← f .same) })
+
+-- ---- the bits of a number, cut: the first run is the quotient, and the cut goes on with the remainder
+
+pub pack-none : (w : ℕ) (cs : List Bool) → pack w 0 cs ≡ []
+unfolding pack
+pack-none w cs = refl
+
+module _ (w n : ℕ) {z : ℕ} (small : z < 2 ^ (w + n)) where
+  first-run : bitsOf (w + n) z ≡ bitsOf w (z / 2 ^ n) ++ bitsOf n (z % 2 ^ n)
+  first-run = bits-split w n z ∙ ap (λ (l : List Bool). bitsOf w (z / 2 ^ n) ++ l) (sym (bits-mod n z))
+
+  pub pack-bits : (k : ℕ) → pack w (suc k) (bitsOf (w + n) z) ≡ z / 2 ^ n ∷ pack w k (bitsOf n (z % 2 ^ n))
+  unfolding pack
+  pack-bits k =
+      let x : List Bool = bitsOf w (z / 2 ^ n) in
+      let y : List Bool = bitsOf n (z % 2 ^ n) in
+      rw (first-run, take-at x y w (bits-length w (z / 2 ^ n)), drop-at x y w (bits-length w (z / 2 ^ n)), value-bits w (shr-lt w n small))
+
+  pub drop-bits : (k : ℕ) → drop (w * suc k) (bitsOf (w + n) z) ≡ drop (w * k) (bitsOf n (z % 2 ^ n))
+  drop-bits k =
+      let x : List Bool = bitsOf w (z / 2 ^ n) in
+      let y : List Bool = bitsOf n (z % 2 ^ n) in
+      rw (mul-suc w k, add-comm (w * k) w, ← drop-drop (w * k) w (bitsOf (w + n) z), first-run, drop-at x y w (bits-length w (z / 2 ^ n)))
+
+pub drop-no-run : (w n : ℕ) {z : ℕ} → z < 2 ^ n → valueOf (drop (w * 0) (bitsOf n z)) ≡ z
+drop-no-run w n h = rw (mul-zero w) (value-bits n h)
+
+-- the bits left after a last byte are its low bits
+pub low-held : (b : ℕ) (xs : List ℕ) (c : ℕ) → 8 * (length xs + 1) % b ≤ 8 → c < 2 ^ (8 * (length xs + 1) % b)
+    → valueOf (drop (b * (8 * (length xs + 1) / b)) (unpack 8 (xs ++ c ∷ []))) ≡ c
+low-held b xs c l h =
+    let r : ℕ = 8 * (length xs + 1) % b in
+    let q : b * (8 * (length xs + 1) / b) + r ≡ 8 * (length xs + 1) = div-add-mod (8 * (length xs + 1)) b in
+    let e : b * (8 * (length xs + 1) / b) ≡ length (unpack 8 xs) + (8 - r) = omega (arith, unpack-length 8 xs) in
+    let w : 8 ≡ 8 - r + r = omega arith in
+    let s : bitsOf 8 c ≡ bitsOf (8 - r) (c / 2 ^ r) ++ bitsOf r c = ap (λ (k : ℕ). bitsOf k c) w ∙ bits-split (8 - r) r c in
+    rw
+    (e, unpack-append 8 xs (c ∷ []), unpack-one 8 c, drop-append-add (unpack 8 xs) (bitsOf 8 c) (8 - r), s, drop-at (bitsOf (8 - r) (c / 2 ^ r)) (bitsOf r c) (8 - r) (bits-length (8 - r) (c / 2 ^ r)))
+    (value-bits r h)
