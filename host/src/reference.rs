@@ -199,16 +199,12 @@ pub fn ruled(alphabet: usize, options: u32, text: &[u8]) -> Judged {
             None => r.pads += 1,
         }
     }
-    let number = if r.pads > 0 {
-        if r.tail(a) == Some(r.pads) { 0 } else { 8 }
-    } else if r.in_group(a) == 0 {
-        0
-    } else if options & NOPAD == 0 || r.tail(a).is_none() {
-        8
-    } else if r.held != 0 && options & SPARE == 0 {
-        6
-    } else {
-        0
+    let unpadded = r.pads == 0 && r.in_group(a) > 0;
+    let number = match () {
+        () if r.pads > 0 && r.tail(a) != Some(r.pads) => 8,
+        () if unpadded && (options & NOPAD == 0 || r.tail(a).is_none()) => 8,
+        () if unpadded && r.held != 0 && options & SPARE == 0 => 6,
+        () => 0,
     };
     Judged { number, position: text.len(), good: r.good }
 }

@@ -72,7 +72,7 @@ fn damage(random: &mut Random, alphabet: usize, text: &mut Vec<u8>) {
         6 => insert(random, text, b"="),
         7 => insert(random, text, b"\r\n"),
         8 => {
-            let blank = random.one_of(&[b' ', b'\t', b'\r', b'\n']);
+            let blank = random.one_of(b" \t\r\n");
             insert(random, text, &[blank]);
         }
         9 => {

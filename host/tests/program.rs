@@ -94,14 +94,11 @@ fn judges_reads_and_writes() {
 
 #[test]
 fn bad_first_lines() {
-    let bad: &[&[u8]] = &[
-        b"", b"\n", b"J", b"J ", b"J 0", b"J 0 ", b"J 0 0", b"J 0 00", b"J 0 00\r\n", b"J 0 00 \n", b" J 0 00\n", b"j 0 00\n", b"d 0 00\n",
-        b"e 0 00\n", b"K 0 00\n", b"X 0 00\n", b"J0 00\n", b"J 000\n", b"J  0 00\n", b"J 0  00\n", b"J\t0 00\n", b"J 0\t00\n", b"J 0 0\n",
-        b"J 0 000\n", b"J 00 00\n", b"J 6 00\n", b"J 9 00\n", b"J a 00\n", b"J - 00\n", b"J 0 32\n", b"J 0 99\n", b"J 0 0a\n", b"J 0 a0\n",
-        b"J 0 -1\n", b"J 0 +1\n", b"J 0 16\n", b"J 1 16\n", b"D 0 31\n", b"D 1 17\n", b"E 0 01\n", b"E 2 16\n", b"E 4 10\n", b"E 0 32\n", b"E 6 00\n",
-        b"JJ0 00\n", b"J 0 00\0", b"\0 0 00\n", b"J 0 00J 0 00\n",
-    ];
-    for line in bad {
+    // Parted by bars, and \n where a line has its byte 10.
+    let bad = "|\n|J|J |J 0|J 0 |J 0 0|J 0 00|J 0 00\r\n|J 0 00 \n| J 0 00\n|j 0 00\n|d 0 00\n|e 0 00\n|K 0 00\n|X 0 00\n|J0 00\n|J 000\n|J  0 00\n\
+        |J 0  00\n|J\t0 00\n|J 0\t00\n|J 0 0\n|J 0 000\n|J 00 00\n|J 6 00\n|J 9 00\n|J a 00\n|J - 00\n|J 0 32\n|J 0 99\n|J 0 0a\n|J 0 a0\n|J 0 -1\n\
+        |J 0 +1\n|J 0 16\n|J 1 16\n|D 0 31\n|D 1 17\n|E 0 01\n|E 2 16\n|E 4 10\n|E 0 32\n|E 6 00\n|JJ0 00\n|J 0 00\0|\0 0 00\n|J 0 00J 0 00\n";
+    for line in bad.split('|').map(str::as_bytes) {
         for data in [&b""[..], b"Zg==", b"\n", b"J 0 00\nZg=="] {
             // What follows a line that never ended may end it: only a whole line is bad whatever comes after.
             if data.is_empty() || line.contains(&10) {
@@ -141,7 +138,14 @@ fn every_choice() {
 fn a_byte_at_a_time() {
     // Each datagram is one read of one byte; an empty one is the input's end.
     let texts: &[&[u8]] = &[
-        b"J 0 00\nZh==", b"J 0 01\nZg=\r\n=", b"D 0 00\nZg==Zg==", b"D 2 16\nmzxw6ytboi======", b"D 0 04\nZm8", b"E 2 00\nfoobar", b"E 0 00\nfo", b"J 0 0",
+        b"J 0 00\nZh==",
+        b"J 0 01\nZg=\r\n=",
+        b"D 0 00\nZg==Zg==",
+        b"D 2 16\nmzxw6ytboi======",
+        b"D 0 04\nZm8",
+        b"E 2 00\nfoobar",
+        b"E 0 00\nfo",
+        b"J 0 0",
         b"J 9 00\nZg==",
     ];
     for input in texts {

@@ -26,7 +26,10 @@ fn processor() -> String {
 }
 
 pub fn page(calls: &[Call], programs: &[Program]) -> String {
-    let mut page = format!("# Measured speed\n\nWritten by `tools/bench`, on one computer ({}), in one run: contestants take turns, medians are told.\n", processor());
+    let mut page = format!(
+        "# Measured speed\n\nWritten by `tools/bench`, on one computer ({}), in one run: contestants take turns, medians are told.\n",
+        processor()
+    );
     page += "A ratio is our time over theirs: below 1 we are faster. Sizes are of the text judged or read, or of the source written.\n\n";
     page += "## The calls\n\n(a) is an ordinary safe Rust codec that goes a byte at a time with the same options and answers, (b) one that takes whole groups at once\n";
     page += "(`host/src/ordinary.rs`); `read lines` is text in lines of 76 with CR LF, read with LINES. Ours is `zem_judge_answer`, `zem_read`, `zem_write`.\n\n";
@@ -87,7 +90,15 @@ pub fn picture(calls: &[Call]) -> String {
     }
     for (k, r) in rows.iter().enumerate() {
         let y = top + step * k as f64;
-        _ = writeln!(svg, "<text x=\"{:.1}\" y=\"{:.1}\" text-anchor=\"end\">{} {} {}</text>", left - 8.0, y + 15.0, r.call, r.alphabet, sized(r.size));
+        _ = writeln!(
+            svg,
+            "<text x=\"{:.1}\" y=\"{:.1}\" text-anchor=\"end\">{} {} {}</text>",
+            left - 8.0,
+            y + 15.0,
+            r.call,
+            r.alphabet,
+            sized(r.size)
+        );
         for (at, time, colour) in [(y + 4.0, r.ours, "#2b6cb0"), (y + 13.0, r.grouped, "#a0aec0")] {
             let end = x(time / r.bytewise);
             _ = writeln!(svg, "<rect x=\"{left}\" y=\"{at:.1}\" width=\"{:.1}\" height=\"8\" fill=\"{colour}\"/>", end - left);
