@@ -20,3 +20,4 @@ pub mod Edges
 pub mod Parting
 pub mod StepLaws
 pub mod SpareBits
+pub mod LastDigit

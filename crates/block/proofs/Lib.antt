@@ -1,3 +1,6 @@
 pub mod Answers
 pub mod RoomLaws
 pub mod ReaderReturns
+pub mod SpellingLaws
+pub mod TidyText
+pub mod AcceptedRun
