@@ -63,12 +63,14 @@ module _ (a opts : ℕ) (t : List ℕ) where
     unfolding spelt
     digits-are = ap (digitsAmong a) (seen-all .spelt) ∙ among-shape a h (seen-all .values) (seen-all .pads) (seen-all .below)
 
-    pub accepted-spelled : Spelled a opts t (ran .state .held) (ran .state .digits)
+    pub digits-counted : length (spelt a opts t) ≡ ran .state .digits
+    digits-counted = rw (same-state .0) (ap length digits-are ∙ length-map (seen-all .values) (digit a))
+
+    pub accepted-spelled : Spelled a opts t (ran .state .held)
     accepted-spelled =
         rw (same-state .0)
         (record {
           choice = ok;
-          size = ap length digits-are ∙ length-map (seen-all .values) (digit a);
           clearable = λ l. rw digits-are (spares-in-last a h (seen-all .values) (seen-all .below) (closed .few) l);
           form =
               sym (promised-of a opts t ok .form zero)

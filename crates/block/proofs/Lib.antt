@@ -4,3 +4,8 @@ pub mod ReaderReturns
 pub mod SpellingLaws
 pub mod TidyText
 pub mod AcceptedRun
+pub mod Buffers
+pub mod SpellingSteps
+pub mod PadSteps
+pub mod CleanWritten
+pub mod TidierReturns

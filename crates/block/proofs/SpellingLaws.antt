@@ -12,7 +12,7 @@ use Rattle.alphabet.specs.Alphabet.{bits, digit, isDigit, pad}
 use Rattle.alphabet.proofs.Shapes.{shape}
 use Rattle.alphabet.proofs.Symbols.{digit-is, pad-is-no-digit}
 use Rattle.reading.specs.Options.{allowed}
-use Rattle.reading.specs.Cleaning.{dropped, turned}
+use Rattle.reading.specs.Cleaning.{dropped, kept, turned}
 use Rattle.reading.proofs.PlainText.{plain, plain-append, plain-drop, plain-keep}
 use Rattle.reading.proofs.StepCases.{digit-stands}
 use Rattle.block.specs.Spelling.{digitsAmong, spelt}
@@ -43,6 +43,10 @@ module _ (a opts : ℕ) where
   spelt-append : (x y : List ℕ) → spelt a opts (x ++ y) ≡ spelt a opts x ++ spelt a opts y
   unfolding spelt
   spelt-append x y = ap (digitsAmong a) (plain-append a opts x y) ∙ among-append a (plain a opts x) (plain a opts y)
+
+  pub spelt-nothing : spelt a opts [] ≡ []
+  unfolding spelt digitsAmong kept
+  spelt-nothing = refl
 
   -- one byte
   pub spelt-dropped : (c : ℕ) → dropped opts c ≡ true → spelt a opts (c ∷ []) ≡ []

@@ -40,10 +40,9 @@ pub record Clearable (a held : ℕ) (w : List ℕ) : Type 0 where
   pub a-digit : isDigit a (getD w (lastOf w) 0) ≡ true
   pub low : held ≤ value a (getD w (lastOf w) 0)
 
--- the text's cleaned text is spelled out of its digits, so many, with the held bits cleared
-pub record Spelled (a opts : ℕ) (t : List ℕ) (held digits : ℕ) : Type 0 where
+-- the text's cleaned text is spelled out of its digits, the last with the held bits cleared
+pub record Spelled (a opts : ℕ) (t : List ℕ) (held : ℕ) : Type 0 where
   pub choice : allowed a opts ≡ true
-  pub size : length (spelt a opts t) ≡ digits
   pub clearable : 0 < held → Clearable a held (spelt a opts t)
   pub form : clean a opts t ≡ spelledOut a held (spelt a opts t)
 

@@ -6,3 +6,4 @@ pub mod tidier; // tidier.rt: the tidier
 pub use judging::judge;
 pub use reader::read;
 pub use reader::read_in_place;
+pub use tidier::tidy;
