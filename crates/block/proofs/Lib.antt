@@ -9,3 +9,5 @@ pub mod SpellingSteps
 pub mod PadSteps
 pub mod CleanWritten
 pub mod TidierReturns
+pub mod Determined
+pub mod RoundTrips
