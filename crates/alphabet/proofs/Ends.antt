@@ -2,10 +2,9 @@
 use Prim.Native.Nat.{ℕ, zero, suc, _+_, _-_, _*_, _/_, _%_, _^_, _<_, _≤_}
 use mathlib.Core.Path.{_≡_, refl, sym, ap, _∙_, subst}
 use mathlib.Core.Bool.{Bool, true, false, not, _||_}
-use mathlib.Core.List.{List, [], _∷_, _++_, append-assoc, append-nil, map, map-append}
+use mathlib.Core.List.{List, _∷_, _++_, append-assoc, append-nil, map, map-append}
 use mathlib.Core.Logic.{_↔_}
 use native.Mathlib.Nat.{mod-lt, mul-comm, add-zero, add-mul, one-mul, mul-one, mul-add, mul-assoc, div-add-mod, div-lt-iff-lt-mul, mul-le-mul-left, lt-of-mul-lt-mul-left, mul-mod-right}
-use native.Mathlib.Numerals.{add-one}
 use native.Mathlib.Omega.{arith}
 use lib.Dec.{T, eqb, eqb→eq}
 use lib.ListN.{length, replicate, length-append, length-map, length-replicate}

@@ -1,5 +1,5 @@
 -- All that is known of the limit: it is a whole number of groups of eight, and far below 2^32. Assumes nothing.
-use Prim.Native.Nat.{ℕ, _%_, _^_, _<_}
+use Prim.Native.Nat.{_%_, _^_, _<_}
 use mathlib.Core.Path.{_≡_, refl}
 use lib.Dec.{lit<}
 use Rattle.reading.specs.Limit.{limit}

@@ -5,9 +5,6 @@ use Rattle.writing.proofs.Promises.{as-ran}
 use borrow.Author.Needs.{needs}
 use Rattle.writing.proofs.as_step.Statement.{statement}
 use Rattle.writing.proofs.as_step.Tie as tie
-use Rattle.writing.proofs.as_step.Reads as reads
-use Rattle.writing.proofs.as_step.Lts as lts
-use Rattle.writing.proofs.gave.Reads as gave-reads
 
 add-taken : tie.Need-add-taken
 add-taken c = search needs

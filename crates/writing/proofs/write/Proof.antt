@@ -12,14 +12,6 @@ use Rattle.writing.proofs.WholeLaws.{wrote-choice, wrote-long, source-w
 use borrow.Author.Needs.{needs}
 use Rattle.writing.proofs.write.Statement.{statement}
 use Rattle.writing.proofs.write.Tie as tie
-use Rattle.writing.proofs.write.Reads as reads
-use Rattle.writing.proofs.write.Lts as lts
-use Rattle.alphabet.proofs.sizes.bits.Reads as bits-reads
-use Rattle.alphabet.proofs.table.digits.Reads as digits-reads
-use Rattle.writing.proofs.longest.Reads as longest-reads
-use Rattle.writing.proofs.put_ending.Reads as put-ending-reads
-use Rattle.writing.proofs.run.Reads as run-reads
-use Rattle.writing.proofs.written_len.Reads as written-len-reads
 
 returns : tie.Need-returns
 returns c = wrote-choice _ _ _ (c .if1 .taken)
