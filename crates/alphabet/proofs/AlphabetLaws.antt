@@ -1,17 +1,17 @@
 -- Laws of the six alphabets: each table's rule is one computed test. Assumes nothing.
-use Prim.Native.Nat.{ℕ, zero, suc, _+_, _-_, _*_, _%_, _^_, _<_, _≤_}
-use mathlib.Core.Path.{_≡_, refl, sym, ap, _∙_, subst}
-use mathlib.Core.Logic.{_⊎_, inl, inr, ⊎-elim}
-use mathlib.Core.Bool.{Bool, true, false, cond, not, _&&_, _||_}
+use Prim.Native.Nat.{ℕ, suc, _+_, _-_, _*_, _%_, _^_, _<_, _≤_}
+use mathlib.Core.Path.{_≡_, refl, sym, ap, _∙_}
+use mathlib.Core.Logic.{_⊎_, inl, inr}
+use mathlib.Core.Bool.{Bool, true, false, cond, _&&_, _||_}
 use mathlib.Core.List.{List, [], _∷_}
-use native.Mathlib.Nat.{add-zero, suc-add, add-suc, zero-add}
+use native.Mathlib.Nat.{add-zero, zero-add}
 use native.Mathlib.Omega.{arith}
 use lib.Dec.{T, eqb, ltb, leb, eqb→eq, leb→le, ltb→lt}
 use lib.ListN.{length, getD}
-use borrow.Author.Tests.{eqb-true, eqb-false, eq-eqb, ne-eqb}
+use borrow.Author.Tests.{eqb-true}
 use Rattle.alphabet.specs.Ascii.{ascii}
-use Rattle.alphabet.proofs.Tables.{allBelow, every, and-left, and-right}
-use Rattle.alphabet.specs.Alphabet.{bits, group, digits, digit, placeFrom, value, isDigit, padded, isPad, pad, tail, spare}
+use Rattle.alphabet.proofs.Tables.{allBelow, every, every-of, and-left, and-right}
+use Rattle.alphabet.specs.Alphabet.{bits, group, digits, digit, placeFrom, value, padded, pad, tail, spare}
 
 -- ---- the sizes
 
@@ -26,6 +26,10 @@ bits-high a h = leb→le (bits a) 6 (every 6 (λ k. leb (bits k) 6) tt a h)
 pub group-pos : (a : ℕ) → a < 6 → 0 < group a
 unfolding allBelow group
 group-pos a h = ltb→lt 0 (group a) (every 6 (λ k. ltb 0 (group k)) tt a h)
+
+pub group-high : (a : ℕ) → a < 6 → group a ≤ 8
+unfolding allBelow group
+group-high a h = leb→le (group a) 8 (every 6 (λ k. leb (group k) 8) tt a h)
 
 -- a group is a whole number of bytes
 pub group-whole : (a : ℕ) → a < 6 → bits a * group a % 8 ≡ 0
@@ -47,7 +51,7 @@ value-digit-test a v = eqb (value a (digit a v)) v && ltb v 255
 
 value-digit-at : (a : ℕ) → a < 6 → {v : ℕ} → v < 2 ^ bits a → T (value-digit-test a v)
 unfolding allBelow ascii bits digits digit placeFrom value value-digit-test
-value-digit-at a h {v} l = every (2 ^ bits a) (value-digit-test a) (every 6 (λ k. allBelow (2 ^ bits k) (value-digit-test k)) tt a h) v l
+value-digit-at a h l = every-of 6 (λ k. 2 ^ bits k) value-digit-test tt h l
 
 pub value-digit : (a : ℕ) → a < 6 → {v : ℕ} → v < 2 ^ bits a → value a (digit a v) ≡ v
 unfolding value-digit-test
@@ -90,13 +94,12 @@ tail-rule a d = cond (ltb 0 d && ltb (bits a * d % 8) (bits a)) (group a - d) 0
 pub tail-is : (a : ℕ) → a < 6 → {d : ℕ} → d < group a → tail a d ≡ cond (ltb 0 d && ltb (bits a * d % 8) (bits a)) (group a - d) 0
 unfolding allBelow bits group tail tail-rule
 tail-is a h {d} l =
-    eqb→eq (tail a d) (tail-rule a d)
-    (every (group a) (λ k. eqb (tail a k) (tail-rule a k)) (every 6 (λ j. allBelow (group j) (λ k. eqb (tail j k) (tail-rule j k))) tt a h) d l)
+    eqb→eq (tail a d) (tail-rule a d) (every-of 6 group (λ j k. eqb (tail j k) (tail-rule j k)) tt h l)
 
 pub tail-padded : (a : ℕ) → a < 6 → {d : ℕ} → d < group a → 0 < tail a d → padded a ≡ true
 unfolding allBelow group tail padded
 tail-padded a h {d} l p =
-    go (padded a) (every (group a) (λ k. padded a || eqb (tail a k) 0) (every 6 (λ j. allBelow (group j) (λ k. padded j || eqb (tail j k) 0)) tt a h) d l)
+    go (padded a) (every-of 6 group (λ j k. padded j || eqb (tail j k) 0) tt h l)
   where
     go : (x : Bool) → T (x || eqb (tail a d) 0) → x ≡ true
     go true t = refl
@@ -113,7 +116,7 @@ spare-test a d = eqb (tail a d) 0 || eqb (spare a (tail a d)) (bits a * d % 8) &
 
 pub spare-tail : (a : ℕ) → a < 6 → {d : ℕ} → d < group a → 0 < tail a d → (spare a (tail a d) ≡ bits a * d % 8) × (0 < bits a * d % 8)
 unfolding allBelow bits group tail spare spare-test
-spare-tail a h {d} l p = go (eqb (tail a d) 0) refl (every (group a) (spare-test a) (every 6 (λ j. allBelow (group j) (spare-test j)) tt a h) d l)
+spare-tail a h {d} l p = go (eqb (tail a d) 0) refl (every-of 6 group spare-test tt h l)
   where
     go : (x : Bool) → eqb (tail a d) 0 ≡ x → T (x || eqb (spare a (tail a d)) (bits a * d % 8) && ltb 0 (bits a * d % 8))
         → (spare a (tail a d) ≡ bits a * d % 8) × (0 < bits a * d % 8)

@@ -12,17 +12,10 @@ use lib.Pow.{pow-add, pow-pos, shr-lt}
 use lib.Arith.{digits-lt}
 use Rattle.alphabet.specs.Bits.{bitsOf, valueOf, unpack, pack, zeros, Below}
 use Rattle.alphabet.specs.Digits.{digitsOf}
-use Rattle.alphabet.proofs.BitLaws.{bits-length, bits-split, bits-mod, bits-join, bits-zero, bits-value-at, value-lt, value-bits, unpack-append, unpack-length, pack-below, unpack-front, below-snoc}
+use Rattle.alphabet.proofs.Below.{below-append, below-snoc}
+use Rattle.alphabet.proofs.Runs.{bits-length, bits-split, bits-mod, bits-join, bits-zero, bits-value-at, value-lt, value-bits, unpack-append, unpack-length, pack-below, unpack-front, unpack-one}
 use Rattle.alphabet.proofs.DigitLaws.{spell-digits}
 use Rattle.alphabet.proofs.Flow.{Flow, out-is}
-
-pub below-append : (m : ℕ) (xs ys : List ℕ) → Below m xs → Below m ys → Below m (xs ++ ys)
-below-append m [] ys h k = k
-below-append m (x ∷ xs) ys h k = (h .0, below-append m xs ys (h .1) k)
-
-pub unpack-one : (w x : ℕ) → unpack w (x ∷ []) ≡ bitsOf w x
-unfolding unpack
-unpack-one w x = append-nil (bitsOf w x)
 
 module _ (m w : ℕ) (pos : 0 < w) where
   -- the bits after what has come out, cut: their full runs come out too, and the rest is held

@@ -4,16 +4,12 @@ use Prim.Native.Nat.{ℕ, _+_, _-_, _*_, _/_, _%_, _^_, _<_, _≤_}
 use mathlib.Core.Path.{_≡_, subst}
 use native.Mathlib.Nat.{mod-eq-of-lt, mod-lt, lt-of-lt-of-le}
 use native.Mathlib.Omega.{arith}
-use lib.Arith.{digits-lt}
-use lib.Pow.{pow-add, pow-pos, pow-mono, shr-lt}
+use lib.Pow.{pow-pos, pow-mono, shr-lt}
 use borrow.Author.Tests.{lt-ltb, le-ltb}
 use Rattle.alphabet.specs.Regroup.{byteAnd, fed, digitsAnd, cutUp}
 use Rattle.alphabet.specs.declared.regroup.Fed.the-variants.{Held, Byte}
 use Rattle.alphabet.specs.declared.regroup.Cut.the-variants.{One, Two}
-
--- w bits after r bits held are r + w bits
-pub joined-lt : (r w : ℕ) {held v : ℕ} → held < 2 ^ r → v < 2 ^ w → held * 2 ^ w + v < 2 ^ (r + w)
-joined-lt r w g h = rw (pow-add 2 r w) (digits-lt g h)
+use Rattle.alphabet.proofs.Runs.{joined-lt}
 
 -- the first w of w + n bits
 first-lt : (k w n : ℕ) {z : ℕ} → k ≡ w + n → z < 2 ^ k → z / 2 ^ n < 2 ^ w

@@ -4,17 +4,17 @@ use Prim.Native.Nat.{ℕ, zero, suc, _+_, _*_, _/_, _%_, _^_, _<_}
 use mathlib.Core.Path.{_≡_, refl, sym, ap, ap₂, _∙_}
 use mathlib.Core.Logic.{_⊎_, inl, inr}
 use mathlib.Core.Bool.{Bool, true, false, cond, not}
-use mathlib.Core.List.{[], _∷_}
 use native.Mathlib.Nat.{add-zero, lt-of-lt-of-le}
 use native.Mathlib.Omega.{arith}
 use lib.Dec.{eqb, ltb}
 use lib.ListN.{getD}
 use lib.Pow.{pow-mono}
-use borrow.Author.Tests.{lt-ltb, le-ltb, eq-eqb, ne-eqb}
+use borrow.Author.Tests.{lt-ltb, ne-eqb}
 use Rattle.alphabet.specs.Alphabet.{bits, digit, value, isDigit, isPad}
 use Rattle.alphabet.specs.Table.{made, entries, symbolOf, symbolIn, digitEntries, digitIn}
 use Rattle.alphabet.specs.declared.table.Symbol.the-variants.{Digit, Pad, Neither}
 use Rattle.alphabet.proofs.AlphabetLaws.{bits-high, value-small, digit-value}
+use Rattle.alphabet.proofs.Symbols.{is-digit, is-pad, pad-is-no-digit}
 
 made-at : (f : ℕ → ℕ) (n k j : ℕ) → j < n → getD (made f n k) j 0 ≡ f (k + j)
 unfolding made
@@ -56,13 +56,46 @@ pub symbol-digit : (a c : ℕ) → isDigit a c ≡ true → symbolOf a c ≡ Dig
 unfolding symbolOf
 symbol-digit a c d = rw d
 
-pub symbol-pad : (a c : ℕ) → isDigit a c ≡ false → isPad a c ≡ true → symbolOf a c ≡ Pad
+pub symbol-pad : (a c : ℕ) → a < 6 → isPad a c ≡ true → symbolOf a c ≡ Pad
 unfolding symbolOf
-symbol-pad a c d p = rw (d, p)
+symbol-pad a c h p = rw (ap (isDigit a) (is-pad a c p .1) ∙ pad-is-no-digit a h, p)
 
 pub symbol-neither : (a c : ℕ) → isDigit a c ≡ false → isPad a c ≡ false → symbolOf a c ≡ Neither
 unfolding symbolOf
 symbol-neither a c d p = rw (d, p)
+
+-- a byte that is the digit of the value v
+pub record DigitOf (a c v : ℕ) : Type 0 where
+  pub digit : isDigit a c ≡ true
+  pub value : v ≡ Rattle.alphabet.specs.Alphabet.value a c
+  pub small : v < 2 ^ bits a
+
+pub digit-symbol : (a c : ℕ) → a < 6 → {v : ℕ} → symbolOf a c ≡ Digit v → DigitOf a c v
+unfolding symbolOf
+digit-symbol a c h {v} = go (isDigit a c) refl (isPad a c)
+  where
+    go : (x : Bool) → isDigit a c ≡ x → (y : Bool) → cond x (Digit (value a c)) (cond y Pad Neither) ≡ Digit v → DigitOf a c v
+    go true d y e = let q : v ≡ value a c = cc in record { digit = d; value = q; small = rw q (is-digit a h c d .small) }
+    go false d true e = let z : _≡_ {A = ℕ} 0 1 = cc in absurd (omega arith)
+    go false d false e = let z : _≡_ {A = ℕ} 0 1 = cc in absurd (omega arith)
+
+pub pad-symbol : (a c : ℕ) → symbolOf a c ≡ Pad → isPad a c ≡ true
+unfolding symbolOf
+pad-symbol a c = go (isDigit a c) (isPad a c) refl
+  where
+    go : (x y : Bool) → isPad a c ≡ y → cond x (Digit (value a c)) (cond y Pad Neither) ≡ Pad → isPad a c ≡ true
+    go true y p e = let z : _≡_ {A = ℕ} 0 1 = cc in absurd (omega arith)
+    go false true p e = p
+    go false false p e = let z : _≡_ {A = ℕ} 0 1 = cc in absurd (omega arith)
+
+pub neither-symbol : (a c : ℕ) → symbolOf a c ≡ Neither → (isDigit a c ≡ false) × (isPad a c ≡ false)
+unfolding symbolOf
+neither-symbol a c = go (isDigit a c) refl (isPad a c) refl
+  where
+    go : (x : Bool) → isDigit a c ≡ x → (y : Bool) → isPad a c ≡ y → cond x (Digit (value a c)) (cond y Pad Neither) ≡ Neither → (isDigit a c ≡ false) × (isPad a c ≡ false)
+    go true d y p e = let z : _≡_ {A = ℕ} 0 1 = cc in absurd (omega arith)
+    go false d true p e = let z : _≡_ {A = ℕ} 0 1 = cc in absurd (omega arith)
+    go false d false p e = (d, p)
 
 -- ---- the digit of a value
 

@@ -1,4 +1,4 @@
--- Regrouping a step at a time, for "take the bytes as one string of bits, highest bit of each byte first; cut it into runs of b bits".
+-- 01, "The written form": "Take the bytes as one string of bits, highest bit of each byte first. Cut it into runs of b bits", a step at a time.
 -- A width or a number of held bits above 7 is read modulo 8, and a result keeps its 8 low bits. Assumes nothing.
 use Prim.Native.Nat.{ℕ, _+_, _-_, _*_, _/_, _%_, _^_}
 use mathlib.Core.Bool.{cond}

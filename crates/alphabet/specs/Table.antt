@@ -1,9 +1,9 @@
--- "One reverse table of 1,536 entries (256 for each alphabet), whose rule is shown once over the whole table: a digit's byte gives its value,
--- every other byte gives 255", what a byte is by that table, and the table of the digits of values. Assumes nothing.
+-- 01, "Alphabets": "one reverse table of 1,536 entries (256 for each alphabet), whose rule is shown once over the whole table: a digit's byte gives
+-- its value, every other byte gives 255". What a byte is by that table, and the digits of values by another. Assumes nothing.
 use Prim.Native.Nat.{ℕ, zero, suc, _+_, _*_, _/_, _%_}
-use mathlib.Core.Bool.{Bool, cond, _&&_}
+use mathlib.Core.Bool.{cond, _&&_}
 use mathlib.Core.List.{List, [], _∷_}
-use lib.Dec.{eqb, ltb}
+use lib.Dec.{ltb}
 use lib.ListN.{getD}
 use Rattle.alphabet.specs.Alphabet.{value, isDigit, isPad, digit}
 use Rattle.alphabet.specs.declared.table.Symbol.{Symbol}

@@ -1,23 +1,21 @@
 -- The reader's state is a function of the digits' values and the pads that it has seen, and a step adds one. Assumes nothing.
-use Prim.Native.Nat.{ℕ, zero, suc, _+_, _-_, _*_, _/_, _%_, _^_, _<_, _≤_}
-use mathlib.Core.Path.{_≡_, refl, sym, ap, _∙_, subst}
-use mathlib.Core.Logic.{_⊎_, inl, inr, _≢_}
-use mathlib.Core.Bool.{Bool, true, false, cond, not, _&&_, _||_}
-use mathlib.Core.List.{List, [], _∷_, _++_, map, append-assoc, append-nil}
+use Prim.Native.Nat.{ℕ, _+_, _-_, _*_, _%_, _^_, _<_, _≤_}
+use mathlib.Core.Path.{_≡_, refl, sym}
+use mathlib.Core.Logic.{_⊎_, inl, inr}
+use mathlib.Core.Bool.{Bool, true, false, not, _&&_}
+use mathlib.Core.List.{List, [], _∷_, _++_}
 use native.Mathlib.Omega.{arith}
-use lib.Dec.{T, eqb, ltb}
-use lib.ListN.{length, length-append, replicate}
-use borrow.Author.Tests.{ltb-true, ltb-false, lt-ltb, le-ltb, eqb-true, eqb-false, eq-eqb, ne-eqb}
-use Rattle.alphabet.specs.Bits.{Below}
+use lib.Dec.{eqb, ltb}
+use lib.ListN.{length, length-append}
+use borrow.Author.Tests.{ltb-true, ltb-false, eqb-true, eqb-false}
+use Rattle.alphabet.specs.Digits.{bytesOf, leftOf}
+use Rattle.alphabet.specs.Alphabet.{bits, group, tail, value, isDigit, isPad}
 use Rattle.alphabet.proofs.BitLaws.{Regrouped, regroup-hold, regroup-give}
-use Rattle.alphabet.specs.Digits.{bytesOf, leftOf, Whole}
-use Rattle.alphabet.proofs.DigitLaws.{regrouped, regrouped-bytes, regrouped-left, regrouped-bits}
-use Rattle.alphabet.specs.Alphabet.{bits, group, tail, value, digit, isDigit, isPad, pad}
-use Rattle.alphabet.proofs.AlphabetLaws.{bits-low, bits-high, group-pos, value-digit, value-small, digit-value, pad-no-digit}
-use Rattle.alphabet.specs.Written.{wanting, spelled, Canonical}
-use Rattle.reading.specs.Options.{anySpare, nopad}
-use Rattle.reading.specs.Cleaning.{dropped, turned, kept}
-use Rattle.reading.specs.Reader.{State, Step, takes, gives, refuses, Reading, going, stopped, fresh, wants, heldBits, passes, onDigit, onPad, step, ending, follow, feed, feedAll, finish, Verdict}
+use Rattle.alphabet.proofs.DigitLaws.{regrouped, regrouped-bytes, regrouped-left}
+use Rattle.alphabet.proofs.AlphabetLaws.{bits-high}
+use Rattle.reading.specs.Options.{anySpare}
+use Rattle.reading.specs.Cleaning.{dropped, turned}
+use Rattle.reading.specs.Reader.{State, Reading, going, stopped, wants, heldBits, passes, onDigit, onPad, step, follow, feed}
 
 -- ---- the state after digits of the values ds and p pads, at index i
 
@@ -89,7 +87,8 @@ pub record Tailed (a opts : ℕ) (ds : List ℕ) (p : ℕ) : Type 0 where
 abbrev pub Stop : Reading → Type 0
 Stop r = (k : ℕ) × (i : ℕ) × (out : List ℕ) × (r ≡ stopped k i out) × (0 < k)
 
-and-false : (p q : Bool) → not p && not q ≡ false → q ≡ false → p ≡ true
+-- of two, not both false: where the second is, the first is true
+pub and-false : (p q : Bool) → not p && not q ≡ false → q ≡ false → p ≡ true
 and-false true q e f = refl
 and-false false true e f = sym f
 and-false false false e f = sym e

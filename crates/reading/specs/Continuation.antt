@@ -13,10 +13,11 @@ pub record Continued (a opts : ℕ) (t : List ℕ) : Type 0 where
   pub bytes : Below 256 more
   pub accepted : Accepted a opts (t ++ more)
 
--- the bytes of an accepted continuation of the text
+-- some bytes after the text make it an accepted one whose bytes are `whole`
 pub record Continuation (a opts : ℕ) (t whole : List ℕ) : Type 0 where
   pub more : List ℕ
-  pub bytes : Below 256 whole
+  pub bytes : Below 256 more
+  pub source : Below 256 whole
   pub form : written a whole ≡ clean a opts (t ++ more)
 
 -- the list begins with s

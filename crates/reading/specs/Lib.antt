@@ -4,3 +4,7 @@ pub mod Cleaning
 pub mod Reader
 pub mod Continuation
 pub mod Piece
+pub mod Promises
+pub mod Tidying
+pub mod Known
+pub mod Sound

@@ -1,12 +1,12 @@
 -- 01, "Streams": a reader's step takes bytes until the piece is taken, a byte is refused, or the room is full for the byte that needs it. Here
 -- stand rule (g), the room, and rule (a), the limit, each once. Assumes nothing.
 use Prim.Native.Nat.{ℕ, zero, suc, _+_, _-_}
-use mathlib.Core.Bool.{Bool, cond}
+use mathlib.Core.Bool.{cond}
 use mathlib.Core.List.{List, [], _∷_, _++_}
 use lib.Dec.{ltb}
 use lib.ListN.{length, take}
 use Rattle.reading.specs.Limit.{limit}
-use Rattle.reading.specs.Reader.{State, Step, takes, gives, refuses, step}
+use Rattle.reading.specs.Reader.{State, Step, takes, gives, refuses, step, ending, Verdict}
 
 -- why a run over a piece stopped: all of it is taken, a byte is refused with an answer, or the next byte needs room
 pub data Why : Type 0 where
@@ -52,3 +52,14 @@ unfoldable pub runPiece : ℕ → ℕ → List ℕ → State → ℕ → Ran
 runPiece a opts piece s room =
     let left : ℕ = limit - s .taken in
     cond (ltb left (length piece)) (atLimitRan (run a opts (take left piece) s room)) (run a opts piece s room)
+
+-- ---- a run over a whole text
+
+-- its answer: at the text's end, at the byte refused, or 3 for want of room
+unfoldable pub answerOf : ℕ → ℕ → State → Why → ℕ
+answerOf a opts s all = ending a opts s
+answerOf a opts s (refused k) = k
+answerOf a opts s full = 3
+
+unfoldable pub verdictOf : ℕ → ℕ → Ran → Verdict
+verdictOf a opts r = record { answer = answerOf a opts (r .state) (r .why); position = r .state .taken; good = r .wrote }

@@ -1,6 +1,7 @@
--- The reader, a byte at a time. Assumes nothing.
-use Prim.Native.Nat.{ℕ, zero, suc, _+_, _-_, _*_, _/_, _%_, _^_}
-use mathlib.Core.Bool.{Bool, true, false, cond, not, _&&_, _||_}
+-- 01, "Answers": a reader looks at each byte in this order: (b) a dropped byte passes; (c) neither digit nor pad: 4; (d) padding begun and a digit, or
+-- padding complete and a pad: 7; (e) a first pad where the table has none: 5; (f) spare bits not zero: 6; and the answers at the end. Assumes nothing.
+use Prim.Native.Nat.{ℕ, _+_, _-_, _*_, _/_, _%_, _^_}
+use mathlib.Core.Bool.{cond, not, _&&_, _||_}
 use mathlib.Core.List.{List, [], _∷_, _++_}
 use lib.Dec.{eqb, ltb, leb}
 use lib.ListN.{length, take}

@@ -12,9 +12,9 @@ use Rattle.alphabet.specs.Bits.{bitsOf}
 use Rattle.alphabet.specs.Regroup.{cutUp}
 use Rattle.alphabet.specs.declared.regroup.Cut.{Cut}
 use Rattle.alphabet.specs.declared.regroup.Cut.the-variants.{One, Two}
-use Rattle.alphabet.proofs.BitLaws.{bits-join}
+use Rattle.alphabet.proofs.Runs.{bits-join, joined-lt}
 use Rattle.alphabet.proofs.Cutting.{pack-none, pack-bits, drop-bits, drop-no-run}
-use Rattle.alphabet.proofs.RegroupLaws.{joined-lt, rest-lt, cut-first-lt, cut-one, cut-second-lt, cut-two}
+use Rattle.alphabet.proofs.RegroupLaws.{rest-lt, cut-first-lt, cut-one, cut-second-lt, cut-two}
 use Rattle.writing.specs.Machine.{waiting, fullRuns, completes, keeps}
 
 -- after n bytes a byte completes the digits ds; r and held are the bits held after it

@@ -13,13 +13,13 @@ use lib.ListN.{length, take, set, replicate, length-append, length-replicate, ge
 use lib.Seq.{paste, paste-suc, take-length, take-suc-set, drop-set-lt}
 use borrow.Author.Tests.{eq-eqb, ne-eqb}
 use Rattle.alphabet.specs.Alphabet.{bits, group, digit, pad}
-use Rattle.alphabet.specs.Written.{wanting, written}
+use Rattle.alphabet.specs.Written.{wanting, written, writtenLength}
 use Rattle.alphabet.proofs.AlphabetLaws.{bits-low}
-use Rattle.writing.specs.Front.{writtenLength, front, heldOf, ending, rest}
+use Rattle.alphabet.proofs.Lengths.{written-length}
+use Rattle.writing.specs.Front.{front, heldOf, ending, rest}
 use Rattle.writing.specs.Whole.{over}
 use Rattle.writing.specs.Contracts.{Sound}
 use Rattle.writing.proofs.FrontLaws.{front-length, front-rest}
-use Rattle.writing.proofs.LengthLaws.{written-length}
 
 module _ (a n held : ℕ) where
   pub ending-none : 8 * n % bits a ≡ 0 → ending a n held ≡ []

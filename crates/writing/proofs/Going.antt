@@ -9,6 +9,7 @@ use native.Mathlib.Omega.{arith}
 use lib.ListN.{length, drop, getD, set, length-set, drop-of-length-le}
 use lib.Seq.{drop-cons}
 use borrow.Author.Tests.{lt-ltb, le-ltb}
+use Rattle.alphabet.specs.Written.{writtenLength}
 use Rattle.alphabet.specs.Alphabet.{bits, digit}
 use Rattle.alphabet.specs.Regroup.{cutUp}
 use Rattle.alphabet.specs.Table.{digitEntries, digitIn}
@@ -17,7 +18,6 @@ use Rattle.alphabet.specs.declared.regroup.Cut.the-variants.{One, Two}
 use Rattle.alphabet.proofs.AlphabetLaws.{bits-low, bits-high}
 use Rattle.reading.specs.Limit.{limit}
 use Rattle.writing.specs.declared.Why.the-variants as W
-use Rattle.writing.specs.Front.{writtenLength}
 use Rattle.writing.specs.Machine.{stop, after, fullRuns, keeps, onByte, run}
 use Rattle.writing.specs.Contracts.{Sound, RanAs}
 use Rattle.writing.proofs.LengthLaws.{within-most, beyond-most, shorter-within}

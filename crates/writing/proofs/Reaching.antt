@@ -11,10 +11,11 @@ use lib.ListN.{length, replicate, length-append, length-replicate}
 use lib.Arith.{lt-one}
 use lib.Pow.{pow-mono}
 use borrow.Author.Tests.{lt-ltb, le-ltb, ltb-true}
+use Rattle.alphabet.specs.Written.{writtenLength}
 use Rattle.alphabet.specs.Bits.{Below}
 use Rattle.alphabet.specs.Alphabet.{bits}
 use Rattle.alphabet.proofs.AlphabetLaws.{bits-low, bits-high}
-use Rattle.alphabet.proofs.BitLaws.{below-snoc}
+use Rattle.alphabet.proofs.Below.{below-snoc}
 use Rattle.alphabet.proofs.Cutting.{low-held}
 use Rattle.reading.specs.Limit.{limit}
 use Rattle.writing.specs.declared.Why.{Why}
@@ -22,7 +23,7 @@ use Rattle.writing.specs.declared.Why.the-variants as W
 use Rattle.writing.specs.declared.Status.{Status}
 use Rattle.writing.specs.declared.Status.the-variants as U
 use Rattle.writing.specs.declared.Writer.{Writer}
-use Rattle.writing.specs.Front.{writtenLength, front, heldOf, ending}
+use Rattle.writing.specs.Front.{front, heldOf, ending}
 use Rattle.writing.specs.Machine.{Run, run, onByte}
 use Rattle.writing.specs.Stream.{fresh, startOf, fitsStatus, sound, Turn, closed, byWhy, close, ranOf, stepOf, finishOf}
 use Rattle.writing.specs.Moment.{Calls, start, step, finish, Reachable}

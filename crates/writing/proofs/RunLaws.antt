@@ -10,11 +10,12 @@ use native.Mathlib.Omega.{arith}
 use lib.Dec.{ltb}
 use lib.ListN.{length, take, length-append, length-map}
 use borrow.Author.Tests.{ltb-true, ltb-false}
+use Rattle.alphabet.specs.Written.{writtenLength}
 use Rattle.alphabet.specs.Alphabet.{bits, digit}
 use Rattle.reading.specs.Limit.{limit}
 use Rattle.writing.specs.declared.Why.{Why}
 use Rattle.writing.specs.declared.Why.the-variants as W
-use Rattle.writing.specs.Front.{writtenLength, front, heldOf}
+use Rattle.writing.specs.Front.{front, heldOf}
 use Rattle.writing.specs.Machine.{Run, stop, after, fullRuns, completes, keeps, onByte, run}
 use Rattle.alphabet.proofs.AlphabetLaws.{bits-low}
 use Rattle.writing.proofs.FrontLaws.{held-snoc, front-snoc, completes-length}

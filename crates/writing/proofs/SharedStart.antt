@@ -15,7 +15,7 @@ use Rattle.alphabet.specs.Bits.{bitsOf, pack}
 use Rattle.alphabet.specs.Alphabet.{bits, digit, value}
 use Rattle.alphabet.specs.Written.{written}
 use Rattle.alphabet.proofs.AlphabetLaws.{bits-low, bits-high, value-digit}
-use Rattle.alphabet.proofs.RegroupLaws.{joined-lt}
+use Rattle.alphabet.proofs.Runs.{joined-lt}
 use Rattle.alphabet.proofs.Cutting.{pack-bits}
 use Rattle.writing.specs.Front.{front, heldOf, rest}
 use Rattle.writing.specs.Machine.{waiting, fullRuns, completes}

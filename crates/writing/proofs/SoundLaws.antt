@@ -7,11 +7,11 @@ use native.Mathlib.Omega.{arith}
 use lib.Dec.{eqb, ltb, leb}
 use lib.Pow.{pow-pos}
 use borrow.Author.Tests.{ltb-true, leb-true, lt-ltb, le-ltb, le-leb, lt-leb, eqb-true, eqb-false}
+use Rattle.alphabet.specs.Written.{writtenLength}
 use Rattle.alphabet.specs.Alphabet.{bits}
 use Rattle.reading.specs.Limit.{limit}
 use Rattle.writing.specs.declared.Status.{Status}
 use Rattle.writing.specs.declared.Status.the-variants as U
-use Rattle.writing.specs.Front.{writtenLength}
 use Rattle.writing.specs.Stream.{fitsStatus, soundBy}
 use Rattle.writing.specs.Contracts.{Sound}
 use Rattle.writing.proofs.LengthLaws.{within-most, beyond-most}

@@ -5,12 +5,13 @@ use mathlib.Core.List.{List, [], _∷_, _++_, append-assoc, append-nil, map}
 use native.Mathlib.Omega.{arith}
 use lib.ListN.{length, take, drop, length-append, take-append-drop}
 use lib.Seq.{take-length}
+use Rattle.alphabet.specs.Written.{writtenLength}
 use Rattle.alphabet.specs.Alphabet.{bits, digit}
 use Rattle.alphabet.proofs.AlphabetLaws.{bits-low}
 use Rattle.reading.specs.Limit.{limit}
 use Rattle.writing.specs.declared.Why.{Why}
 use Rattle.writing.specs.declared.Why.the-variants as W
-use Rattle.writing.specs.Front.{writtenLength, front, heldOf}
+use Rattle.writing.specs.Front.{front, heldOf}
 use Rattle.writing.specs.Machine.{Run, completes, run}
 use Rattle.writing.proofs.FrontLaws.{held-none, front-none, front-snoc}
 use Rattle.writing.proofs.LengthLaws.{none-within, shorter-within}

@@ -5,10 +5,10 @@ use mathlib.Core.Bool.{Bool, cond}
 use mathlib.Core.List.{List, [], _∷_, _++_, map}
 use lib.Dec.{ltb}
 use lib.ListN.{drop}
+use Rattle.alphabet.specs.Written.{writtenLength}
 use Rattle.alphabet.specs.Bits.{bitsOf, valueOf, pack}
 use Rattle.alphabet.specs.Alphabet.{bits, digit}
 use Rattle.reading.specs.Limit.{limit}
-use Rattle.writing.specs.Front.{writtenLength}
 use Rattle.writing.specs.declared.Why.{Why}
 use Rattle.writing.specs.declared.Why.the-variants as W
 

@@ -11,7 +11,8 @@ ghost use lib.Seq.{paste};
 ghost use Rattle.alphabet.specs.Alphabet as sizes;
 ghost use Rattle.alphabet.specs.Table.{digitEntries};
 ghost use Rattle.reading.specs.Limit.{limit};
-ghost use Rattle.writing.specs.Front.{writtenLength, ending};
+ghost use Rattle.alphabet.specs.Written.{writtenLength};
+ghost use Rattle.writing.specs.Front.{ending};
 ghost use Rattle.writing.specs.Machine as machine;
 ghost use Rattle.writing.specs.Stream as stream;
 ghost use Rattle.writing.specs.Contracts.{Sound, RanAs, given, asStepped, ranAs, SteppedAs, ClosedAs, FinishedAs, WroteAs};
@@ -61,14 +62,13 @@ struct Ran {
     written: usize,
 }
 
-const LIMIT: usize = 16777216;
-
 // The longest source whose written form is within the limit, for digits of b bits.
 fn longest(b: usize) -> usize
     requires { ⌜ b ≤ 6 ⌝ }
     ensures { λ r. ⌜ r ≡ b * limit / 8 ⌝ }
 {
-    b * LIMIT / 8
+    let l = reading::limit();
+    b * l / 8
 }
 
 // The smaller of two numbers.

@@ -26,7 +26,7 @@ low c = rw (c .bits .ensures) (bits-low (c .before .before .args .alphabet) (c .
 high : (c : tie.After-bits) → c .bits .result ≤ 6
 high c = rw (c .bits .ensures) (bits-high (c .before .before .args .alphabet) (c .before .before .pre .0 .1 .known))
 
-small : (c : tie.After-bits) → 8 * c .before .before .args .taken < 2 ^ 28
+small : (c : tie.After-bits) → 8 * c .before .before .args .taken < 2 ^ 31
 small c = source-small (c .before .before .args .alphabet) (c .before .before .pre .0 .1 .known) (c .before .before .args .taken) (c .before .before .pre .0 .1 .within)
 
 mul-few : tie.Need-mul-few

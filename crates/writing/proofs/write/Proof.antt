@@ -4,9 +4,9 @@ use mathlib.Core.Path.{_∙_}
 use native.Mathlib.Omega.{arith}
 use lib.ListN.{length}
 use lib.Pow.{pow-pos}
+use Rattle.alphabet.specs.Written.{writtenLength}
 use Rattle.alphabet.proofs.AlphabetLaws.{bits-high}
 use Rattle.reading.specs.Limit.{limit}
-use Rattle.writing.specs.Front.{writtenLength}
 use Rattle.writing.proofs.LengthLaws.{none-within}
 use Rattle.writing.proofs.WholeLaws.{wrote-choice, wrote-long, source-within, wrote-short, wrote-all, source-sound, room-for-ending, whole-laid}
 use borrow.Author.Needs.{needs}

@@ -4,15 +4,15 @@ use mathlib.Core.Path.{_≡_}
 use native.Mathlib.Nat.{mod-lt, le-of-lt}
 use native.Mathlib.Omega.{arith}
 use borrow.Author.Needs.{needs}
+use Rattle.alphabet.specs.Written.{writtenLength}
 use Rattle.alphabet.proofs.AlphabetLaws.{bits-low, bits-high, group-pos}
 use Rattle.reading.proofs.LimitLaws.{limit-small}
-use Rattle.writing.specs.Front.{writtenLength}
 use Rattle.writing.proofs.LengthLaws.{source-small, length-full, length-padded}
 use Rattle.writing.proofs.written_len.Statement.{statement}
 use Rattle.writing.proofs.written_len.Tie as tie
 
 -- where both sizes are known
-eight : (c : tie.After-group) → 8 * c .before .before .args .n < 268435456
+eight : (c : tie.After-group) → 8 * c .before .before .args .n < 2147483648
 eight c = source-small (c .before .before .args .alphabet) (c .before .before .pre .0) (c .before .before .args .n) (c .before .before .pre .1)
 
 low : (c : tie.After-group) → 4 ≤ c .before .bits .result

@@ -1,0 +1,3 @@
+pub mod Answers
+pub mod RoomLaws
+pub mod ReaderReturns

@@ -1,0 +1,4 @@
+pub mod Whole
+pub mod Calls
+pub mod Answered
+pub mod Room

@@ -1,0 +1,6 @@
+pub mod ByCases
+pub mod Steps
+pub mod Bytes
+pub mod Loops
+pub mod AtLimit
+pub mod FromFresh

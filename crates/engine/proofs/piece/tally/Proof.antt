@@ -1,0 +1,210 @@
+-- `piece::tally`: each turn of the loop takes a byte as the definition does, or stops as it does. Assumes nothing.
+use Prim.Native.Nat.{_-_}
+use mathlib.Core.Path.{sym, _∙_}
+use native.Mathlib.Omega.{arith}
+use lib.ListN.{length, getD}
+use borrow.Author.Needs.{needs}
+use Rattle.reading.proofs.OptionLaws.{allowed-alphabet}
+use Rattle.engine.specs.Meaning.{stateOf}
+use Rattle.engine.proofs.Bytes.{plain-digit, digit-does}
+use Rattle.engine.proofs.Loops.{Tally, tally-begins, tally-takes, tally-gives, fit, loop-refused, loop-all}
+use Rattle.engine.proofs.piece.tally.Statement.{statement}
+use Rattle.engine.proofs.piece.tally.Tie as tie
+
+abbrev Inv-loop : tie.InvT-loop
+Inv-loop t alphabet options text b k₀ i₀ n₀ k i n = Tally alphabet options text k₀ k i n
+
+abbrev μ-loop : tie.MeasureT-loop
+μ-loop t alphabet options text b k₀ i₀ n₀ k i n = length text - i
+
+bits-requires : tie.Need-bits-requires Inv-loop μ-loop
+bits-requires c κs = search needs
+
+loop-holds : tie.Need-loop-holds Inv-loop μ-loop
+loop-holds c = tally-begins _ _ _ _ (c .before .before .pre .1 .1)
+
+shared-slice-read-byte : tie.Need-shared-slice-read-byte Inv-loop μ-loop
+shared-slice-read-byte c = search needs
+
+lookup-requires : tie.Need-lookup-requires Inv-loop μ-loop
+lookup-requires c κs = search needs
+
+enum-known-v : tie.Need-enum-known-v Inv-loop μ-loop
+enum-known-v c = search needs
+
+on-digit-requires : tie.Need-on-digit-requires Inv-loop μ-loop
+on-digit-requires c κs =
+    let v = c .before in
+    let l = v .before .before in
+    let b = l .before in
+    let h = b .before .before in
+    let s = h .before .before .before in
+    let a = allowed-alphabet _ _ (s .pre .1 .0) in
+    let d = plain-digit _ _ (getD (s .args .text .now) (h .loop .i) 0) (stateOf (h .loop .k)) (s .pre .0) (s .pre .1 .0) (omega (arith, b .shared-slice-known2 .given (h .loop .i))) (sym (l .lookup .ensures) ∙ v .v .given .1) in
+    (h .before .bits .ensures, (a, (fit a (h .loop .inv .loop) (s .pre .1 .1) (b .before .loop-test .taken), d .small)))
+
+enum-known-c : tie.Need-enum-known-c Inv-loop μ-loop
+enum-known-c c = search needs
+
+add-i : tie.Need-add-i Inv-loop μ-loop
+add-i c = search needs
+
+loop-less : tie.Need-loop-less Inv-loop μ-loop
+loop-less c = search needs
+
+loop-again : tie.Need-loop-again Inv-loop μ-loop
+loop-again c =
+    let m = c .before .before .before in
+    let v = m .before .before in
+    let l = v .before .before in
+    let b = l .before in
+    let h = b .before .before in
+    let s = h .before .before .before in
+    let a = allowed-alphabet _ _ (s .pre .1 .0) in
+    let e = digit-does _ _ (getD (s .args .text .now) (h .loop .i) 0) (m .on-digit .result) (h .loop .k) (s .pre .0) (s .pre .1 .0) (omega (arith, b .shared-slice-known2 .given (h .loop .i))) (sym (l .lookup .ensures) ∙ v .v .given .1) (m .on-digit .ensures) in
+    tally-takes a (h .loop .inv) (b .before .loop-test .taken) e (c .before .c .given .1)
+
+enum-known-c-2 : tie.Need-enum-known-c-2 Inv-loop μ-loop
+enum-known-c-2 c = search needs
+
+add-n : tie.Need-add-n Inv-loop μ-loop
+add-n c = let h = c .before .before .before .before .before .before .before .before .before .before in omega (arith, h .loop .inv .behind)
+
+add-i-2 : tie.Need-add-i-2 Inv-loop μ-loop
+add-i-2 c = search needs
+
+loop-less-2 : tie.Need-loop-less-2 Inv-loop μ-loop
+loop-less-2 c = search needs
+
+loop-again-2 : tie.Need-loop-again-2 Inv-loop μ-loop
+loop-again-2 c =
+    let m = c .before .before .before in
+    let v = m .before .before in
+    let l = v .before .before in
+    let b = l .before in
+    let h = b .before .before in
+    let s = h .before .before .before in
+    let a = allowed-alphabet _ _ (s .pre .1 .0) in
+    let e = digit-does _ _ (getD (s .args .text .now) (h .loop .i) 0) (m .on-digit .result) (h .loop .k) (s .pre .0) (s .pre .1 .0) (omega (arith, b .shared-slice-known2 .given (h .loop .i))) (sym (l .lookup .ensures) ∙ v .v .given .1) (m .on-digit .ensures) in
+    tally-gives a (h .loop .inv) (b .before .loop-test .taken) e (c .before .c2 .given .1)
+
+enum-known-e : tie.Need-enum-known-e Inv-loop μ-loop
+enum-known-e c = search needs
+
+returns : tie.Need-returns Inv-loop μ-loop
+returns c =
+    let m = c .before .before .before in
+    let v = m .before .before in
+    let l = v .before .before in
+    let b = l .before in
+    let h = b .before .before in
+    let s = h .before .before .before in
+    let a = allowed-alphabet _ _ (s .pre .1 .0) in
+    let e = digit-does _ _ (getD (s .args .text .now) (h .loop .i) 0) (m .on-digit .result) (h .loop .k) (s .pre .0) (s .pre .1 .0) (omega (arith, b .shared-slice-known2 .given (h .loop .i))) (sym (l .lookup .ensures) ∙ v .v .given .1) (m .on-digit .ensures) in
+    (loop-refused a (h .loop .inv .loop) (b .before .loop-test .taken) e (c .before .e .given .1)) .is
+
+rare-requires : tie.Need-rare-requires Inv-loop μ-loop
+rare-requires c κs =
+    let b = c .before .before in
+    let h = b .before .before in
+    let s = h .before .before .before in
+    let a = allowed-alphabet _ _ (s .pre .1 .0) in
+    (s .pre .0, (a, fit a (h .loop .inv .loop) (s .pre .1 .1) (b .before .loop-test .taken)))
+
+enum-known-c-3 : tie.Need-enum-known-c-3 Inv-loop μ-loop
+enum-known-c-3 c = search needs
+
+add-i-3 : tie.Need-add-i-3 Inv-loop μ-loop
+add-i-3 c = search needs
+
+loop-less-3 : tie.Need-loop-less-3 Inv-loop μ-loop
+loop-less-3 c = search needs
+
+loop-again-3 : tie.Need-loop-again-3 Inv-loop μ-loop
+loop-again-3 c =
+    let m = c .before .before .before in
+    let b = m .before .before .before in
+    let h = b .before .before in
+    let s = h .before .before .before in
+    let a = allowed-alphabet _ _ (s .pre .1 .0) in
+    let e = m .rare .ensures in
+    tally-takes a (h .loop .inv) (b .before .loop-test .taken) e (c .before .c3 .given .1)
+
+enum-known-c-4 : tie.Need-enum-known-c-4 Inv-loop μ-loop
+enum-known-c-4 c = search needs
+
+add-n-2 : tie.Need-add-n-2 Inv-loop μ-loop
+add-n-2 c = let h = c .before .before .before .before .before .before .before .before in omega (arith, h .loop .inv .behind)
+
+add-i-4 : tie.Need-add-i-4 Inv-loop μ-loop
+add-i-4 c = search needs
+
+loop-less-4 : tie.Need-loop-less-4 Inv-loop μ-loop
+loop-less-4 c = search needs
+
+loop-again-4 : tie.Need-loop-again-4 Inv-loop μ-loop
+loop-again-4 c =
+    let m = c .before .before .before in
+    let b = m .before .before .before in
+    let h = b .before .before in
+    let s = h .before .before .before in
+    let a = allowed-alphabet _ _ (s .pre .1 .0) in
+    let e = m .rare .ensures in
+    tally-gives a (h .loop .inv) (b .before .loop-test .taken) e (c .before .c4 .given .1)
+
+enum-known-e-2 : tie.Need-enum-known-e-2 Inv-loop μ-loop
+enum-known-e-2 c = search needs
+
+returns-2 : tie.Need-returns-2 Inv-loop μ-loop
+returns-2 c =
+    let m = c .before .before .before in
+    let b = m .before .before .before in
+    let h = b .before .before in
+    let s = h .before .before .before in
+    let a = allowed-alphabet _ _ (s .pre .1 .0) in
+    let e = m .rare .ensures in
+    (loop-refused a (h .loop .inv .loop) (b .before .loop-test .taken) e (c .before .e2 .given .1)) .is
+
+returns-3 : tie.Need-returns-3 Inv-loop μ-loop
+returns-3 c =
+    let h = c .before in
+    let s = h .before .before .before in
+    let a = allowed-alphabet _ _ (s .pre .1 .0) in
+    loop-all a (h .loop .inv .loop) (c .loop-test .left) .is
+
+pub tally-spec : {M : Type 1} → statement M
+tally-spec =
+    tie.close
+    (tie.spec
+    Inv-loop
+    μ-loop
+    bits-requires
+    loop-holds
+    shared-slice-read-byte
+    lookup-requires
+    enum-known-v
+    on-digit-requires
+    enum-known-c
+    add-i
+    loop-less
+    loop-again
+    enum-known-c-2
+    add-n
+    add-i-2
+    loop-less-2
+    loop-again-2
+    enum-known-e
+    returns
+    rare-requires
+    enum-known-c-3
+    add-i-3
+    loop-less-3
+    loop-again-3
+    enum-known-c-4
+    add-n-2
+    add-i-4
+    loop-less-4
+    loop-again-4
+    enum-known-e-2
+    returns-2
+    returns-3)

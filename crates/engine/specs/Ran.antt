@@ -1,0 +1,82 @@
+-- What a run over a piece gives, in the engine's types: the definitions of `reading` (Piece) with the answer's shape, and the buffer.
+-- Assumes nothing.
+use Prim.Native.Nat.{ℕ, _+_, _*_, _%_, _≤_, _^_}
+use mathlib.Core.Bool.{Bool, cond, _&&_}
+use mathlib.Core.List.{List, [], _∷_, _++_}
+use lib.Dec.{leb, ltb}
+use lib.ListN.{length, drop, getD}
+use Rattle.alphabet.specs.Alphabet.{bits}
+use Rattle.reading.specs.Options.{allowed}
+use Rattle.reading.specs.Limit.{limit}
+use Rattle.reading.specs.Reader.{State, fresh}
+use Rattle.reading.specs.Sound.{Sound}
+use Rattle.reading.specs.Piece as P
+use Rattle.reading.specs.Piece.{runPiece}
+use Rattle.engine.specs.declared.rule.Core.{Core}
+use Rattle.engine.specs.declared.rule.Cause.{Cause}
+use Rattle.engine.specs.declared.rule.Cause.the-variants as C
+use Rattle.engine.specs.declared.piece.Why.{Why}
+use Rattle.engine.specs.declared.piece.Why.the-variants as W
+use Rattle.engine.specs.declared.piece.Ran.{Ran}
+use Rattle.engine.specs.Meaning.{stateOf}
+
+-- the bytes at the front of a buffer, every later byte as before
+abbrev pub filled : List ℕ → List ℕ → List ℕ
+filled w o = w ++ drop (length w) o
+
+abbrev pub coreOf : State → Core
+coreOf s = record { digits = s .digits; held = s .held; pads = s .pads; taken = s .taken }
+
+-- the refusal of 01's number
+unfoldable pub causeOf : ℕ → Cause
+causeOf k = getD (C.TooLong ∷ C.TooLong ∷ C.TooLong ∷ C.TooLong ∷ C.Foreign ∷ C.PadPlace ∷ C.Spare ∷ C.AfterPad ∷ C.Short ∷ []) k C.TooLong
+
+unfoldable pub whyAtLimit : Why → Why
+whyAtLimit W.All = W.Refused C.TooLong
+whyAtLimit (W.Refused c) = W.Refused c
+whyAtLimit W.Full = W.Full
+whyAtLimit W.Unfit = W.Unfit
+
+unfoldable pub whyAs : P.Why → Why
+whyAs P.all = W.All
+whyAs (P.refused k) = W.Refused (causeOf k)
+whyAs P.full = W.Full
+
+abbrev pub ranAs : P.Ran → Ran
+ranAs r = record { core = coreOf (r .state); why = whyAs (r .why); took = r .took; wrote = length (r .wrote) }
+
+-- (a): all of what lies below the limit was taken, and a byte lies at it
+abbrev pub atLimit : Ran → Ran
+atLimit r = record { core = r .core; why = whyAtLimit (r .why); took = r .took; wrote = r .wrote }
+
+-- a state that text gives, and m bytes more are within the limit
+pub record Ready (a : ℕ) (k : Core) (m : ℕ) : Type 0 where
+  pub sound : Sound a (stateOf k)
+  pub within : k .taken + m ≤ limit
+
+-- the held bits are as many as the digits leave
+unfoldable pub small : ℕ → ℕ → ℕ → Bool
+small a digits held = ltb held (2 ^ (bits a * digits % 8))
+
+-- the test of a choice and a state
+unfoldable pub ready : ℕ → ℕ → Core → Bool
+ready a opts k =
+    allowed a opts && leb (k .taken) limit && leb (k .digits) (k .taken) && leb (k .pads) (k .taken) && small a (k .digits) (k .held)
+
+-- nothing was done
+abbrev pub unfit : Core → Ran
+unfit k = record { core = k; why = W.Unfit; took = 0; wrote = 0 }
+
+-- a run from a state that is ready, and else nothing
+unfoldable pub runAs : ℕ → ℕ → Core → List ℕ → ℕ → Ran
+runAs a opts k piece room = cond (ready a opts k) (ranAs (runPiece a opts piece (stateOf k) room)) (unfit k)
+
+unfoldable pub runBytes : ℕ → ℕ → Core → List ℕ → ℕ → List ℕ
+runBytes a opts k piece room = cond (ready a opts k) (runPiece a opts piece (stateOf k) room .wrote) []
+
+-- a whole text, with room for as many bytes as it has: room never lacks
+unfoldable pub freshAs : ℕ → ℕ → List ℕ → Ran
+freshAs a opts text = cond (allowed a opts) (ranAs (runPiece a opts text fresh (length text))) (unfit (coreOf fresh))
+
+unfoldable pub freshBytes : ℕ → ℕ → List ℕ → List ℕ
+freshBytes a opts text = cond (allowed a opts) (runPiece a opts text fresh (length text) .wrote) []

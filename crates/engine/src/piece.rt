@@ -1,0 +1,397 @@
+// The loops over a piece: into a second buffer, in place, and counting alone. Each takes the table once, and asks `on_digit` for a byte that
+// is a digit as it stands and `rare` for any other, so that the common byte costs no call.
+use crate::choice::allowed;
+use crate::rule::Cause;
+use crate::rule::Core;
+use crate::rule::Took;
+use crate::rule::on_digit;
+use crate::rule::rare;
+use alphabet::table::Symbol;
+pub use reading::limit;
+ghost use Prim.Native.Nat.{_<_, _≤_};
+ghost use mathlib.Core.Path.{_≡_};
+ghost use mathlib.Core.Bool.{true};
+ghost use lib.ListN.{length};
+ghost use Rattle.alphabet.specs.Table.{entries};
+ghost use Rattle.reading.specs.Options as Options;
+ghost use Rattle.reading.specs.Limit as Limit;
+ghost use Rattle.reading.specs.Piece as Piece;
+ghost use Rattle.engine.specs.Meaning.{stateOf};
+ghost use Rattle.engine.specs.Ran as Spec;
+ghost use Rattle.engine.specs.Ran.{Ready, ranAs, filled};
+
+// Why a run over a piece stopped. Unfit: the choice or the state is none that reading starts from, and nothing was done.
+pub enum Why {
+    All,
+    Refused(Cause),
+    Full,
+    Unfit,
+}
+
+// The state then, why it stopped, how many bytes it took and how many it gave.
+pub struct Ran {
+    pub core: Core,
+    pub why: Why,
+    pub took: usize,
+    pub wrote: usize,
+}
+
+// The state before any text.
+pub fn fresh() -> Core
+    ensures { λ r. ⌜ r ≡ record { digits = 0; held = 0; pads = 0; taken = 0 } ⌝ }
+{
+    Core {
+        digits: 0,
+        held: 0,
+        pads: 0,
+        taken: 0,
+    }
+}
+
+fn fill(
+    t: &[u8; 1536],
+    alphabet: usize,
+    options: usize,
+    start: Core,
+    piece: &[u8],
+    out: &mut [u8],
+) -> Ran
+    requires { ⌜ now t ≡ entries ⌝ }
+    requires { ⌜ Options.allowed alphabet options ≡ true ⌝ }
+    requires { ⌜ Ready alphabet start (length (now piece)) ⌝ }
+    ensures { λ r. ⌜ r ≡ ranAs (Piece.run alphabet options (now (piece .entry)) (stateOf start) (length (now (out .entry)))) ⌝ }
+    ensures { λ r. ⌜ now (out .exit) ≡ filled (Piece.run alphabet options (now (piece .entry)) (stateOf start) (length (now (out .entry))) .wrote) (now (out .entry)) ⌝ }
+{
+    let b = alphabet::sizes::bits(alphabet);
+    let mut k = start;
+    let mut i: usize = 0;
+    let mut n: usize = 0;
+    while i < piece.len() {
+        let byte = piece[i];
+        match alphabet::table::lookup(t, alphabet, byte) {
+            Symbol::Digit(v) => match on_digit(alphabet, b, k, v) {
+                Took::Takes(c) => {
+                    k = c;
+                    i += 1;
+                }
+                Took::Gives(x, c) => {
+                    if n == out.len() {
+                        return Ran {
+                            core: k,
+                            why: Why::Full,
+                            took: i,
+                            wrote: n,
+                        };
+                    }
+                    out[n] = x; // n is below the room
+                    n += 1;
+                    k = c;
+                    i += 1;
+                }
+                Took::Refuses(e) => {
+                    return Ran {
+                        core: k,
+                        why: Why::Refused(e),
+                        took: i,
+                        wrote: n,
+                    };
+                }
+            },
+            _ => match rare(t, alphabet, options, k, byte) {
+                Took::Takes(c) => {
+                    k = c;
+                    i += 1;
+                }
+                Took::Gives(x, c) => {
+                    if n == out.len() {
+                        return Ran {
+                            core: k,
+                            why: Why::Full,
+                            took: i,
+                            wrote: n,
+                        };
+                    }
+                    out[n] = x;
+                    n += 1;
+                    k = c;
+                    i += 1;
+                }
+                Took::Refuses(e) => {
+                    return Ran {
+                        core: k,
+                        why: Why::Refused(e),
+                        took: i,
+                        wrote: n,
+                    };
+                }
+            },
+        }
+    }
+    Ran {
+        core: k,
+        why: Why::All,
+        took: i,
+        wrote: n,
+    }
+}
+
+// Counting alone: room never lacks, since a byte needs more than one byte of text.
+fn tally(t: &[u8; 1536], alphabet: usize, options: usize, start: Core, text: &[u8]) -> Ran
+    requires { ⌜ now t ≡ entries ⌝ }
+    requires { ⌜ Options.allowed alphabet options ≡ true ⌝ }
+    requires { ⌜ Ready alphabet start (length (now text)) ⌝ }
+    ensures { λ r. ⌜ r ≡ ranAs (Piece.run alphabet options (now (text .entry)) (stateOf start) (length (now (text .entry)))) ⌝ }
+{
+    let b = alphabet::sizes::bits(alphabet);
+    let mut k = start;
+    let mut i: usize = 0;
+    let mut n: usize = 0;
+    while i < text.len() {
+        let byte = text[i];
+        match alphabet::table::lookup(t, alphabet, byte) {
+            Symbol::Digit(v) => match on_digit(alphabet, b, k, v) {
+                Took::Takes(c) => {
+                    k = c;
+                    i += 1;
+                }
+                Took::Gives(_, c) => {
+                    n += 1;
+                    k = c;
+                    i += 1;
+                }
+                Took::Refuses(e) => {
+                    return Ran {
+                        core: k,
+                        why: Why::Refused(e),
+                        took: i,
+                        wrote: n,
+                    };
+                }
+            },
+            _ => match rare(t, alphabet, options, k, byte) {
+                Took::Takes(c) => {
+                    k = c;
+                    i += 1;
+                }
+                Took::Gives(_, c) => {
+                    n += 1;
+                    k = c;
+                    i += 1;
+                }
+                Took::Refuses(e) => {
+                    return Ran {
+                        core: k,
+                        why: Why::Refused(e),
+                        took: i,
+                        wrote: n,
+                    };
+                }
+            },
+        }
+    }
+    Ran {
+        core: k,
+        why: Why::All,
+        took: i,
+        wrote: n,
+    }
+}
+
+// In place: the index that is written never passes the one that is read.
+fn settle(t: &[u8; 1536], alphabet: usize, options: usize, start: Core, buf: &mut [u8]) -> Ran
+    requires { ⌜ now t ≡ entries ⌝ }
+    requires { ⌜ Options.allowed alphabet options ≡ true ⌝ }
+    requires { ⌜ Ready alphabet start (length (now buf)) ⌝ }
+    ensures { λ r. ⌜ r ≡ ranAs (Piece.run alphabet options (now (buf .entry)) (stateOf start) (length (now (buf .entry)))) ⌝ }
+    ensures { λ r. ⌜ now (buf .exit) ≡ filled (Piece.run alphabet options (now (buf .entry)) (stateOf start) (length (now (buf .entry))) .wrote) (now (buf .entry)) ⌝ }
+{
+    let b = alphabet::sizes::bits(alphabet);
+    let mut k = start;
+    let mut i: usize = 0;
+    let mut n: usize = 0;
+    while i < buf.len() {
+        let byte = buf[i];
+        match alphabet::table::lookup(t, alphabet, byte) {
+            Symbol::Digit(v) => match on_digit(alphabet, b, k, v) {
+                Took::Takes(c) => {
+                    k = c;
+                    i += 1;
+                }
+                Took::Gives(x, c) => {
+                    buf[n] = x; // n is never past i
+                    n += 1;
+                    k = c;
+                    i += 1;
+                }
+                Took::Refuses(e) => {
+                    return Ran {
+                        core: k,
+                        why: Why::Refused(e),
+                        took: i,
+                        wrote: n,
+                    };
+                }
+            },
+            _ => match rare(t, alphabet, options, k, byte) {
+                Took::Takes(c) => {
+                    k = c;
+                    i += 1;
+                }
+                Took::Gives(x, c) => {
+                    buf[n] = x;
+                    n += 1;
+                    k = c;
+                    i += 1;
+                }
+                Took::Refuses(e) => {
+                    return Ran {
+                        core: k,
+                        why: Why::Refused(e),
+                        took: i,
+                        wrote: n,
+                    };
+                }
+            },
+        }
+    }
+    Ran {
+        core: k,
+        why: Why::All,
+        took: i,
+        wrote: n,
+    }
+}
+
+// Whether the held bits are as many as the digits leave.
+fn small(alphabet: usize, digits: usize, held: u8) -> bool
+    requires { ⌜ alphabet < 6 ⌝ }
+    requires { ⌜ digits ≤ Limit.limit ⌝ }
+    ensures { λ r. ⌜ r ≡ Spec.small alphabet digits held ⌝ }
+{
+    let b = alphabet::sizes::bits(alphabet);
+    let r = b * digits % 8;
+    let w: usize = 1 << r;
+    (held as usize) < w
+}
+
+// Whether the choice is allowed and the state is one that reading can go on from.
+fn ready(alphabet: usize, options: usize, k: Core) -> bool
+    ensures { λ r. ⌜ r ≡ Spec.ready alphabet options k ⌝ }
+{
+    let digits = k.digits;
+    let held = k.held;
+    let pads = k.pads;
+    let taken = k.taken;
+    if allowed(alphabet, options) {
+        if taken <= limit() {
+            if digits <= taken {
+                if pads <= taken {
+                    return small(alphabet, digits, held);
+                }
+            }
+        }
+    }
+    false
+}
+
+// (a): the byte at the limit is refused, where all before it was taken.
+fn at_limit(r: Ran) -> Ran
+    ensures { λ x. ⌜ x ≡ Spec.atLimit r ⌝ }
+{
+    let core = r.core;
+    let why = r.why;
+    let took = r.took;
+    let wrote = r.wrote;
+    match why {
+        Why::All => Ran {
+            core,
+            why: Why::Refused(Cause::TooLong),
+            took,
+            wrote,
+        },
+        Why::Refused(cause) => Ran {
+            core,
+            why: Why::Refused(cause),
+            took,
+            wrote,
+        },
+        Why::Full => Ran {
+            core,
+            why: Why::Full,
+            took,
+            wrote,
+        },
+        Why::Unfit => Ran {
+            core,
+            why: Why::Unfit,
+            took,
+            wrote,
+        },
+    }
+}
+
+fn unfit(core: Core) -> Ran
+    ensures { λ r. ⌜ r ≡ Spec.unfit core ⌝ }
+{
+    Ran {
+        core,
+        why: Why::Unfit,
+        took: 0,
+        wrote: 0,
+    }
+}
+
+// A piece into a buffer, from any state.
+pub fn run(alphabet: usize, options: usize, start: Core, piece: &[u8], out: &mut [u8]) -> Ran
+    ensures { λ r. ⌜ r ≡ Spec.runAs alphabet options start (now (piece .entry)) (length (now (out .entry))) ⌝ }
+    ensures { λ r. ⌜ now (out .exit) ≡ filled (Spec.runBytes alphabet options start (now (piece .entry)) (length (now (out .entry)))) (now (out .entry)) ⌝ }
+{
+    if ready(alphabet, options, start) {
+        let t = alphabet::table::table();
+        let taken = start.taken;
+        let left = limit() - taken;
+        if left < piece.len() {
+            let front = &piece[..left];
+            let r = fill(&t, alphabet, options, start, front, out);
+            return at_limit(r);
+        }
+        return fill(&t, alphabet, options, start, piece, out);
+    }
+    unfit(start)
+}
+
+// A whole text, counted alone.
+pub fn count(alphabet: usize, options: usize, text: &[u8]) -> Ran
+    ensures { λ r. ⌜ r ≡ Spec.freshAs alphabet options (now (text .entry)) ⌝ }
+{
+    let start = fresh();
+    if allowed(alphabet, options) {
+        let t = alphabet::table::table();
+        let most = limit();
+        if most < text.len() {
+            let front = &text[..most];
+            let r = tally(&t, alphabet, options, start, front);
+            return at_limit(r);
+        }
+        return tally(&t, alphabet, options, start, text);
+    }
+    unfit(start)
+}
+
+// A whole text in place.
+pub fn in_place(alphabet: usize, options: usize, buf: &mut [u8]) -> Ran
+    ensures { λ r. ⌜ r ≡ Spec.freshAs alphabet options (now (buf .entry)) ⌝ }
+    ensures { λ r. ⌜ now (buf .exit) ≡ filled (Spec.freshBytes alphabet options (now (buf .entry))) (now (buf .entry)) ⌝ }
+{
+    let start = fresh();
+    if allowed(alphabet, options) {
+        let t = alphabet::table::table();
+        let most = limit();
+        if most < buf.len() {
+            let r = settle(&t, alphabet, options, start, &mut buf[..most]);
+            return at_limit(r);
+        }
+        return settle(&t, alphabet, options, start, buf);
+    }
+    unfit(start)
+}
