@@ -1,21 +1,19 @@
 -- How a written form ends: at a full run of bits with no pad, or with one digit more and the pads after it. Assumes nothing.
-use Prim.Native.Nat.{ℕ, zero, suc, _+_, _-_, _*_, _/_, _%_, _^_, _<_, _≤_}
-use mathlib.Core.Path.{_≡_, refl, sym, ap, _∙_, subst}
+use Prim.Native.Nat.{ℕ, _+_, _-_, _*_, _/_, _%_, _^_, _<_}
+use mathlib.Core.Path.{_≡_, refl, sym, _∙_, subst}
 use mathlib.Core.Bool.{Bool, true, false, not, _||_}
 use mathlib.Core.List.{List, _∷_, _++_, append-assoc, append-nil, map, map-append}
-use mathlib.Core.Logic.{_↔_}
-use native.Mathlib.Nat.{mod-lt, mul-comm, add-zero, add-mul, one-mul, mul-one, mul-add, mul-assoc, div-add-mod, div-lt-iff-lt-mul, mul-le-mul-left, lt-of-mul-lt-mul-left, mul-mod-right}
+use native.Mathlib.Nat.{mod-lt}
 use native.Mathlib.Omega.{arith}
 use lib.Dec.{T, eqb, eqb→eq}
-use lib.ListN.{length, replicate, length-append, length-map, length-replicate}
+use lib.ListN.{length, replicate, length-append}
 use borrow.Author.Tests.{eq-eqb}
-use Rattle.alphabet.specs.Bits.{pack}
-use Rattle.alphabet.specs.Digits.{digitCount, filled, digitsOf}
+use Rattle.alphabet.specs.Digits.{digitCount}
 use Rattle.alphabet.specs.Alphabet.{bits, group, digit, pad}
 use Rattle.alphabet.specs.Written.{wanting, spelled, written, writtenLength}
 use Rattle.alphabet.proofs.Tables.{allBelow, every}
 use Rattle.alphabet.proofs.AlphabetLaws.{bits-low, group-pos}
-use Rattle.alphabet.proofs.WrittenLaws.{last-group, wanting-none, wanting-some}
+use Rattle.alphabet.proofs.WrittenLaws.{last-group, wanting-none}
 use Rattle.alphabet.proofs.Flow.{Flow}
 use Rattle.alphabet.proofs.Cutting.{digits-full, digits-filled, flow-length}
 

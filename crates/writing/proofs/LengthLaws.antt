@@ -9,7 +9,7 @@ use lib.Dec.{ltb}
 use borrow.Author.Tests.{ltb-true, ltb-false}
 use Rattle.alphabet.specs.Alphabet.{bits, group}
 use Rattle.alphabet.specs.Written.{wanting, writtenLength}
-use Rattle.alphabet.proofs.AlphabetLaws.{bits-low, bits-high, group-pos}
+use Rattle.alphabet.proofs.AlphabetLaws.{bits-high, group-pos}
 use Rattle.alphabet.proofs.WrittenLaws.{wanting-none, wanting-some}
 use Rattle.alphabet.proofs.Lengths.{longest}
 use Rattle.alphabet.proofs.Ends.{length-as}
