@@ -10,8 +10,8 @@ use Rattle.writing.proofs.LengthLaws.{source-small}
 use Rattle.writing.proofs.EndingLaws.{ending-length, needed}
 use Rattle.writing.proofs.Promises.{closed-short, closed-done}
 use borrow.Author.Needs.{needs}
-use Rattle.writing.proofs.closed.Statement.{statement}
-use Rattle.writing.proofs.closed.Tie as tie
+use Rattle.writing.proofs.stream.closed.Statement.{statement}
+use Rattle.writing.proofs.stream.closed.Tie as tie
 
 -- the needed count, once both sizes are known
 need : (c : tie.After-bits)

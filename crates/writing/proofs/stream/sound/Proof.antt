@@ -6,8 +6,8 @@ use borrow.Author.Needs.{needs}
 use Rattle.alphabet.proofs.AlphabetLaws.{bits-low, bits-high}
 use Rattle.writing.proofs.LengthLaws.{source-small}
 use Rattle.writing.proofs.SoundLaws.{unknown, too-many, too-large, source-within, when-open, when-done, when-long}
-use Rattle.writing.proofs.sound.Statement.{statement}
-use Rattle.writing.proofs.sound.Tie as tie
+use Rattle.writing.proofs.stream.sound.Statement.{statement}
+use Rattle.writing.proofs.stream.sound.Tie as tie
 
 returns : tie.Need-returns
 returns c = unknown _ _ _ _ (c .if1 .taken)

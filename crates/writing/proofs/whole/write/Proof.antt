@@ -10,8 +10,8 @@ use Rattle.reading.specs.Limit.{limit}
 use Rattle.writing.proofs.LengthLaws.{none-within}
 use Rattle.writing.proofs.WholeLaws.{wrote-choice, wrote-long, source-within, wrote-short, wrote-all, source-sound, room-for-ending, whole-laid}
 use borrow.Author.Needs.{needs}
-use Rattle.writing.proofs.write.Statement.{statement}
-use Rattle.writing.proofs.write.Tie as tie
+use Rattle.writing.proofs.whole.write.Statement.{statement}
+use Rattle.writing.proofs.whole.write.Tie as tie
 
 returns : tie.Need-returns
 returns c = wrote-choice _ _ _ (c .if1 .taken)
