@@ -10,7 +10,6 @@ use Rattle.reading.specs.Options.{allowed}
 use Rattle.reading.specs.Limit.{limit}
 use Rattle.reading.specs.Reader.{State, wants, heldBits}
 use Rattle.reading.specs.Sound.{Sound}
-use Rattle.reading.specs.Piece as P
 use Rattle.reading.specs.Piece.{runPiece}
 use Rattle.engine.specs.declared.rule.Core.{Core}
 use Rattle.engine.specs.declared.rule.Cause.{Cause}
