@@ -1,3 +1,4 @@
 pub mod Answers
 pub mod RoomLaws
+pub mod RoomByJudge
 pub mod ReaderReturns

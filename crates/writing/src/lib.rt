@@ -1,4 +1,6 @@
 // The writer: the written form of a source, whole and as a stream by value.
+pub mod measure; // measure.rt: what the whole writer answers, asked without a buffer
+
 use alphabet::regroup::Cut;
 use answer::Count;
 use answer::Kind;
