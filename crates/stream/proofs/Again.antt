@@ -25,7 +25,7 @@ use Rattle.stream.proofs.GoesOn.{step-goes-on}
 pub live-shut : {k : ℕ} → live ≡ shut k → ⊥
 live-shut e = let z : _≡_ {A = ℕ} 0 1 = cc in omega arith
 
-done-shut : {k : ℕ} → done ≡ shut k → ⊥
+pub done-shut : {k : ℕ} → done ≡ shut k → ⊥
 done-shut e = let z : _≡_ {A = ℕ} 0 1 = cc in omega arith
 
 shut-same : {j k : ℕ} → shut j ≡ shut k → j ≡ k

@@ -6,4 +6,6 @@ pub mod Driving
 pub mod Promises
 pub mod Stepped
 pub mod Packed
+pub mod Made
+pub mod Carried
 pub mod Known
