@@ -6,16 +6,16 @@ use mathlib.Core.List.{List}
 use lib.ListN.{length}
 use Rattle.stream.specs.declared.reader.Status.the-variants as U
 use Rattle.stream.specs.declared.reader.Reader.{Reader}
-use Rattle.stream.specs.Stream.{live}
-use Rattle.stream.specs.Reached.{Reachable}
+use Rattle.streaming.specs.Stream.{live}
+use Rattle.streaming.specs.Reached.{Reachable}
 use Rattle.stream.specs.Stepped.{statusOf, streamOf}
 use Rattle.stream.specs.Made.{steps, finishes, Reached}
 use Rattle.stream.specs.Carried.{StepCarried, FinishCarried}
-use Rattle.stream.proofs.AfterCalls.{after-any-calls}
-use Rattle.stream.proofs.GoesOn.{step-goes-on}
-use Rattle.stream.proofs.NineExactly.{nine-exactly}
-use Rattle.stream.proofs.Again.{step-again, finish-again}
-use Rattle.stream.proofs.RefusesExactly.{refuses-exactly}
+use Rattle.streaming.proofs.AfterCalls.{after-any-calls}
+use Rattle.streaming.proofs.GoesOn.{step-goes-on}
+use Rattle.streaming.proofs.NineExactly.{nine-exactly}
+use Rattle.streaming.proofs.Again.{step-again, finish-again}
+use Rattle.streaming.proofs.RefusesExactly.{refuses-exactly}
 use Rattle.stream.proofs.Telling.{step-tells, finish-tells}
 use Rattle.stream.proofs.Making.{made-calls, reached-given, reached-exactly}
 

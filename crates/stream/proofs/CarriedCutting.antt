@@ -12,17 +12,17 @@ use Rattle.stream.specs.declared.reader.Status.{Status}
 use Rattle.stream.specs.declared.reader.Status.the-variants as U
 use Rattle.stream.specs.declared.reader.Reader.{Reader}
 use Rattle.stream.specs.declared.reader.Start.the-variants as B
-use Rattle.stream.specs.Stream.{done, Stream}
-use Rattle.stream.specs.Calls.{finishOf}
-use Rattle.stream.specs.Driving as D
-use Rattle.stream.specs.Driving.{Driven, offer, drive, Offering, Refused, Settled}
-use Rattle.stream.specs.Promises.{finishVerdict, Settles}
+use Rattle.streaming.specs.Stream.{done, Stream}
+use Rattle.streaming.specs.Calls.{finishOf}
+use Rattle.streaming.specs.Driving as D
+use Rattle.streaming.specs.Driving.{Driven, offer, drive, Offering, Refused, Settled}
+use Rattle.streaming.specs.Promises.{finishVerdict, Settles}
 use Rattle.engine.specs.Meaning.{number}
 use Rattle.stream.specs.Stepped.{statusOf, streamOf, begun, finished}
 use Rattle.stream.specs.Made.{Lent, Held, begins, offerBy, driveBy, offerOf, drivenOf, ShutBy, SettledBy, verdictBy}
 use Rattle.stream.specs.Carried.{SettlesBy}
-use Rattle.stream.proofs.Again.{live-shut, done-shut}
-use Rattle.stream.proofs.AnyCutting.{any-cutting, offering-ends}
+use Rattle.streaming.proofs.Again.{live-shut, done-shut}
+use Rattle.streaming.proofs.AnyCutting.{any-cutting, offering-ends}
 use Rattle.stream.proofs.Telling.{step-tells, finish-tells, nothing-written}
 use Rattle.stream.proofs.Making.{start-tells}
 

@@ -10,16 +10,16 @@ use Rattle.reading.specs.Reader.{State}
 use Rattle.reading.proofs.Refusals.{blame, Ended, ended}
 use Rattle.stream.specs.declared.reader.Reader.{Reader}
 use Rattle.stream.specs.declared.reader.Start.the-variants as B
-use Rattle.stream.specs.Stream.{Status, live, shut, done, Stream, Start, declined, started, startOf}
-use Rattle.stream.specs.Given.{given}
-use Rattle.stream.specs.Calls.{Called, stepOf, finishOf}
-use Rattle.stream.specs.Reached as R
-use Rattle.stream.specs.Reached.{Calls, Reachable}
+use Rattle.streaming.specs.Stream.{Status, live, shut, done, Stream, Start, declined, started, startOf}
+use Rattle.streaming.specs.Given.{given}
+use Rattle.streaming.specs.Calls.{Called, stepOf, finishOf}
+use Rattle.streaming.specs.Reached as R
+use Rattle.streaming.specs.Reached.{Calls, Reachable}
 use Rattle.stream.specs.Stepped.{statusOf, statusAs, streamOf, readerOf, stepped, finished, startAs, begun}
 use Rattle.stream.specs.Made.{Made, starts, steps, finishes, Reached}
-use Rattle.stream.proofs.Standing.{Refusal, at-limit, at-byte, at-end, Stands}
-use Rattle.stream.proofs.GivenLaws.{given-says}
-use Rattle.stream.proofs.Reaching.{calls-given, given-reached}
+use Rattle.streaming.proofs.Standing.{Refusal, at-limit, at-byte, at-end, Stands}
+use Rattle.streaming.proofs.GivenLaws.{given-says}
+use Rattle.streaming.proofs.Reaching.{calls-given, given-reached}
 use Rattle.stream.proofs.Causes.{IsCause, long-cause, blame-cause, ended-cause, number-back, reader-back}
 use Rattle.stream.proofs.Telling.{step-tells, finish-tells, nothing-written}
 

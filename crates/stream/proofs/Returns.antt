@@ -29,14 +29,14 @@ use Rattle.stream.specs.declared.reader.Status.the-variants as U
 use Rattle.stream.specs.declared.reader.Reader.{Reader}
 use Rattle.stream.specs.declared.reader.Stepped.{Stepped}
 use Rattle.stream.specs.declared.reader.Start.the-variants as B
-use Rattle.stream.specs.Stream.{live, startOf}
-use Rattle.stream.specs.Given.{given, readable}
-use Rattle.stream.specs.Calls.{Called, unmoved, whyStatus, whyAnswer, ran, stepOf, endStatus, closes}
-use Rattle.stream.specs.Promises.{Sticks}
+use Rattle.streaming.specs.Stream.{live, startOf}
+use Rattle.streaming.specs.Given.{given, readable}
+use Rattle.streaming.specs.Calls.{Called, unmoved, whyStatus, whyAnswer, ran, stepOf, endStatus, closes}
+use Rattle.streaming.specs.Promises.{Sticks}
 use Rattle.stream.specs.Stepped.{statusOf, statusAs, streamOf, place, count, kindBy, kindOf, outcomeOf, returned, stepped, written, finished, startAs, begun}
 use Rattle.stream.specs.Packed.{reader, packed, untold, byWhy, asStep, asEnd}
-use Rattle.stream.proofs.Order.{nine-sticks, ten-sticks, refusal-sticks, live-step, live-finish}
-use Rattle.stream.proofs.GivenLaws.{given-says}
+use Rattle.streaming.proofs.Order.{nine-sticks, ten-sticks, refusal-sticks, live-step, live-finish}
+use Rattle.streaming.proofs.GivenLaws.{given-says}
 use Rattle.stream.proofs.Tests.{given-ready}
 use Rattle.stream.proofs.Causes.{IsCause, long-cause, blame-cause, some-number, status-back, refused-outcome, cause-outcome}
 

@@ -21,15 +21,15 @@ use Rattle.engine.proofs.States.{long-number, foreign-number, pad-number, spare
 use Rattle.stream.specs.declared.reader.Status.{Status}
 use Rattle.stream.specs.declared.reader.Status.the-variants as U
 use Rattle.stream.specs.declared.reader.Reader.{Reader}
-use Rattle.stream.specs.Stream as S
-use Rattle.stream.specs.Stream.{Stream}
-use Rattle.stream.specs.Given.{given}
-use Rattle.stream.specs.Calls.{Called, unmoved, whyStatus, whyAnswer, ran, stepOf, endStatus, closes, finishOf}
-use Rattle.stream.specs.Promises.{Sticks}
+use Rattle.streaming.specs.Stream as S
+use Rattle.streaming.specs.Stream.{Stream}
+use Rattle.streaming.specs.Given.{given}
+use Rattle.streaming.specs.Calls.{Called, unmoved, whyStatus, whyAnswer, ran, stepOf, endStatus, closes, finishOf}
+use Rattle.streaming.specs.Promises.{Sticks}
 use Rattle.stream.specs.Stepped.{statusOf, statusAs, streamOf, place, count, kindBy, kindOf, outcomeOf, returned, stepped, written, finished}
 use Rattle.stream.specs.Made.{Tells}
-use Rattle.stream.proofs.Order.{nine-sticks, ten-sticks, refusal-sticks, live-step, live-finish}
-use Rattle.stream.proofs.GivenLaws.{given-says}
+use Rattle.streaming.proofs.Order.{nine-sticks, ten-sticks, refusal-sticks, live-step, live-finish}
+use Rattle.streaming.proofs.GivenLaws.{given-says}
 use Rattle.stream.proofs.Causes.{IsCause, ended-cause, some-number, number-back, status-back, refused-outcome}
 use Rattle.stream.proofs.Returns.{ran-cause}
 

@@ -10,8 +10,8 @@ use Rattle.reading.specs.Reader.{judged}
 use Rattle.reading.specs.Promises.{Promised}
 use Rattle.stream.specs.declared.reader.Status.the-variants as U
 use Rattle.stream.specs.declared.reader.Reader.{Reader}
-use Rattle.stream.specs.Calls.{stepOf, finishOf}
-use Rattle.stream.specs.Promises.{GivenAgain, AfterCalls, GoesOn, RefusesExactly}
+use Rattle.streaming.specs.Calls.{stepOf, finishOf}
+use Rattle.streaming.specs.Promises.{GivenAgain, AfterCalls, GoesOn, RefusesExactly}
 use Rattle.stream.specs.Stepped.{streamOf, stepped, written, finished}
 use Rattle.stream.specs.Made.{answerOf, tookOf, handedOut, Tells, Made, Reached, Held, verdictBy}
 

@@ -1,11 +1,4 @@
-pub mod Stream
-pub mod Given
-pub mod Calls
-pub mod Reached
-pub mod Driving
-pub mod Promises
 pub mod Stepped
 pub mod Packed
 pub mod Made
 pub mod Carried
-pub mod Known

@@ -13,8 +13,8 @@ use Rattle.stream.specs.declared.reader.Status.the-variants as U
 use Rattle.stream.specs.declared.reader.Reader.{Reader}
 use Rattle.stream.specs.declared.reader.Stepped.{Stepped}
 use Rattle.stream.specs.declared.reader.Start.the-variants as B
-use Rattle.stream.specs.Calls.{Called}
-use Rattle.stream.specs.Driving.{Offer, Driven}
+use Rattle.streaming.specs.Calls.{Called}
+use Rattle.streaming.specs.Driving.{Offer, Driven}
 use Rattle.stream.specs.Stepped.{streamOf, begun, stepped, written, finished}
 
 -- ---- a result in 01's numbers

@@ -12,10 +12,10 @@ use Rattle.reading.proofs.Continuations.{read-continued}
 use Rattle.reading.proofs.OptionLaws.{allowed-alphabet}
 use Rattle.reading.proofs.Fronts.{seen-going}
 use Rattle.reading.proofs.Shared.{longest-shared}
-use Rattle.stream.specs.Stream.{Stream}
-use Rattle.stream.specs.Reached.{Calls}
-use Rattle.stream.specs.Promises.{AfterCalls}
-use Rattle.stream.proofs.Standing.{Standing, standing}
+use Rattle.streaming.specs.Stream.{Stream}
+use Rattle.streaming.specs.Reached.{Calls}
+use Rattle.streaming.specs.Promises.{AfterCalls}
+use Rattle.streaming.proofs.Standing.{Standing, standing}
 
 pub standing-after : {a opts : ℕ} {t out : List ℕ} {s : Stream} → Standing a opts t out s → AfterCalls a opts t out s
 standing-after {a} {opts} {t} {out} {s} x =

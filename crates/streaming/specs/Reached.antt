@@ -5,8 +5,8 @@ use mathlib.Core.Path.{_≡_}
 use mathlib.Core.List.{List, [], _++_}
 use lib.ListN.{take}
 use Rattle.alphabet.specs.Bits.{Below}
-use Rattle.stream.specs.Stream.{Stream, started, startOf}
-use Rattle.stream.specs.Calls.{stepOf, finishOf}
+use Rattle.streaming.specs.Stream.{Stream, started, startOf}
+use Rattle.streaming.specs.Calls.{stepOf, finishOf}
 
 -- calls from a start with a and opts that took this text and handed out these bytes give the stream: steps with any piece and any room, and finishes
 pub data Calls (a opts : ℕ) : List ℕ → List ℕ → Stream → Type 0 where

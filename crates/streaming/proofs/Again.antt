@@ -10,17 +10,17 @@ use lib.Dec.{eqb}
 use borrow.Author.Tests.{eq-eqb}
 use Rattle.alphabet.specs.Bits.{Below}
 use Rattle.reading.specs.Reader.{ending}
-use Rattle.stream.specs.Stream.{Status, live, shut, done, Stream}
-use Rattle.stream.specs.Given.{given}
-use Rattle.stream.specs.Calls.{Called, unmoved, stepOf, endStatus, closes, finishOf}
-use Rattle.stream.specs.Reached.{stepped, closed}
-use Rattle.stream.specs.Promises.{GivenAgain, TookAll, RefusedNext, NextNeedsRoom}
-use Rattle.stream.proofs.Order.{ten-sticks, refusal-sticks, live-finish}
-use Rattle.stream.proofs.Standing.{Stands}
-use Rattle.stream.proofs.GivenLaws.{given-says}
-use Rattle.stream.proofs.Reaching.{calls-given, given-reached}
-use Rattle.stream.proofs.NineExactly.{refusal-some}
-use Rattle.stream.proofs.GoesOn.{step-goes-on}
+use Rattle.streaming.specs.Stream.{Status, live, shut, done, Stream}
+use Rattle.streaming.specs.Given.{given}
+use Rattle.streaming.specs.Calls.{Called, unmoved, stepOf, endStatus, closes, finishOf}
+use Rattle.streaming.specs.Reached.{stepped, closed}
+use Rattle.streaming.specs.Promises.{GivenAgain, TookAll, RefusedNext, NextNeedsRoom}
+use Rattle.streaming.proofs.Order.{ten-sticks, refusal-sticks, live-finish}
+use Rattle.streaming.proofs.Standing.{Stands}
+use Rattle.streaming.proofs.GivenLaws.{given-says}
+use Rattle.streaming.proofs.Reaching.{calls-given, given-reached}
+use Rattle.streaming.proofs.NineExactly.{refusal-some}
+use Rattle.streaming.proofs.GoesOn.{step-goes-on}
 
 pub live-shut : {k : ℕ} → live ≡ shut k → ⊥
 live-shut e = let z : _≡_ {A = ℕ} 0 1 = cc in omega arith

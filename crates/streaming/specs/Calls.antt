@@ -7,8 +7,8 @@ use mathlib.Core.List.{List, []}
 use lib.Dec.{eqb}
 use Rattle.reading.specs.Reader.{State, ending}
 use Rattle.reading.specs.Piece.{Why, all, refused, full, Ran, runPiece}
-use Rattle.stream.specs.Stream.{Status, live, shut, done, Stream}
-use Rattle.stream.specs.Given.{given}
+use Rattle.streaming.specs.Stream.{Status, live, shut, done, Stream}
+use Rattle.streaming.specs.Given.{given}
 
 pub record Called : Type 0 where
   pub stream : Stream

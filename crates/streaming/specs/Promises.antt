@@ -9,10 +9,10 @@ use Rattle.reading.specs.Limit.{limit}
 use Rattle.reading.specs.Continuation.{Continued, LongestShared}
 use Rattle.reading.specs.Reader.{State, gives, refuses, going, fresh, step, feedAll, Verdict, judged}
 use Rattle.reading.specs.Promises.{Promised}
-use Rattle.stream.specs.Stream.{live, shut, done, Stream}
-use Rattle.stream.specs.Calls.{Called, unmoved, stepOf, finishOf}
-use Rattle.stream.specs.Reached.{Reachable}
-use Rattle.stream.specs.Driving.{Driven, Refused}
+use Rattle.streaming.specs.Stream.{live, shut, done, Stream}
+use Rattle.streaming.specs.Calls.{Called, unmoved, stepOf, finishOf}
+use Rattle.streaming.specs.Reached.{Reachable}
+use Rattle.streaming.specs.Driving.{Driven, Refused}
 
 -- every call on the stream gives this answer at this position, takes and writes nothing and returns it unchanged
 pub record Sticks (s : Stream) (k i : ℕ) : Type 0 where

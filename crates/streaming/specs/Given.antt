@@ -7,7 +7,7 @@ use Rattle.alphabet.specs.Alphabet.{padded}
 use Rattle.reading.specs.Limit.{limit}
 use Rattle.reading.specs.Options.{lines, blank, nopad, anySpare, allowed}
 use Rattle.reading.specs.Reader.{State, wants, heldBits, ending}
-use Rattle.stream.specs.Stream.{Status, live, shut, done, Stream}
+use Rattle.streaming.specs.Stream.{Status, live, shut, done, Stream}
 
 -- a text within the limit has so many digits and pads, and for the rest bytes that are dropped, where some are
 unfoldable pub countsFit : ℕ → State → Bool

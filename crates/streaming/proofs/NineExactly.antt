@@ -8,16 +8,16 @@ use native.Mathlib.Omega.{arith}
 use Rattle.reading.specs.Reader.{State}
 use Rattle.reading.proofs.Positions.{refuses-range}
 use Rattle.reading.proofs.Refusals.{Ended, whole, spare, short, ended}
-use Rattle.stream.specs.Stream.{Status, live, shut, done, Stream}
-use Rattle.stream.specs.Given.{given}
-use Rattle.stream.specs.Calls.{Called, stepOf, closes, finishOf}
-use Rattle.stream.specs.Reached.{Reachable}
-use Rattle.stream.specs.Promises.{Sticks, NineExactly, TookAll, RefusedNext, NextNeedsRoom}
-use Rattle.stream.proofs.Order.{nine-sticks, ten-sticks, refusal-sticks, live-finish}
-use Rattle.stream.proofs.Standing.{Refusal, at-limit, at-byte, at-end, Stands}
-use Rattle.stream.proofs.GivenLaws.{given-says}
-use Rattle.stream.proofs.Reaching.{calls-given, given-reached}
-use Rattle.stream.proofs.GoesOn.{step-goes-on}
+use Rattle.streaming.specs.Stream.{Status, live, shut, done, Stream}
+use Rattle.streaming.specs.Given.{given}
+use Rattle.streaming.specs.Calls.{Called, stepOf, closes, finishOf}
+use Rattle.streaming.specs.Reached.{Reachable}
+use Rattle.streaming.specs.Promises.{Sticks, NineExactly, TookAll, RefusedNext, NextNeedsRoom}
+use Rattle.streaming.proofs.Order.{nine-sticks, ten-sticks, refusal-sticks, live-finish}
+use Rattle.streaming.proofs.Standing.{Refusal, at-limit, at-byte, at-end, Stands}
+use Rattle.streaming.proofs.GivenLaws.{given-says}
+use Rattle.streaming.proofs.Reaching.{calls-given, given-reached}
+use Rattle.streaming.proofs.GoesOn.{step-goes-on}
 
 -- ---- no other answer is 9
 

@@ -8,11 +8,11 @@ use Rattle.alphabet.specs.Bits.{Below}
 use Rattle.alphabet.specs.Alphabet.{bits, digit}
 use Rattle.reading.specs.Limit.{limit}
 use Rattle.reading.proofs.LimitCases.{AtLimit, limit-accepted, limit-passed}
-use Rattle.stream.specs.Stream.{Stream, started, startOf}
-use Rattle.stream.specs.Driving.{Offer, begin, drive, Settled}
-use Rattle.stream.specs.Promises.{finishVerdict}
-use Rattle.stream.proofs.Standing.{start-is}
-use Rattle.stream.proofs.AnyCutting.{any-cutting}
+use Rattle.streaming.specs.Stream.{Stream, started, startOf}
+use Rattle.streaming.specs.Driving.{Offer, begin, drive, Settled}
+use Rattle.streaming.specs.Promises.{finishVerdict}
+use Rattle.streaming.proofs.Standing.{start-is}
+use Rattle.streaming.proofs.AnyCutting.{any-cutting}
 
 module _ (a : ℕ) (hex : 4 ≤ a) (h : a < 6) (opts : ℕ) (s : Stream) (e : startOf a opts ≡ started s) (ds : List ℕ) (b : Below (2 ^ bits a) ds) (n : length ds ≡ limit) where
   pub stream-accepted : Below 256 (map (digit a) ds) → (os : List Offer) → Settled (drive os (begin s (map (digit a) ds)))

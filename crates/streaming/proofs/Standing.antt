@@ -18,11 +18,11 @@ use Rattle.reading.specs.Piece.{Why, all, refused, full, Ran}
 use Rattle.reading.proofs.Seen.{feed-append}
 use Rattle.reading.proofs.PieceLimit.{PieceFeeds, piece-feeds}
 use Rattle.reading.proofs.Taking.{reads-none}
-use Rattle.stream.specs.Stream.{Status, live, shut, done, Stream, declined, started, freshStream, startOf}
-use Rattle.stream.specs.Given.{given}
-use Rattle.stream.specs.Calls.{Called, unmoved, whyStatus, ran, stepOf, endStatus, closes, finishOf}
-use Rattle.stream.specs.Reached.{Calls, begun, stepped, closed}
-use Rattle.stream.proofs.Order.{nine-sticks, ten-sticks, refusal-sticks, live-step, live-finish}
+use Rattle.streaming.specs.Stream.{Status, live, shut, done, Stream, declined, started, freshStream, startOf}
+use Rattle.streaming.specs.Given.{given}
+use Rattle.streaming.specs.Calls.{Called, unmoved, whyStatus, ran, stepOf, endStatus, closes, finishOf}
+use Rattle.streaming.specs.Reached.{Calls, begun, stepped, closed}
+use Rattle.streaming.proofs.Order.{nine-sticks, ten-sticks, refusal-sticks, live-step, live-finish}
 
 -- what is refused with k after what the state has taken: the byte at the limit, a byte before it, or the text's end
 pub data Refusal (a opts : ℕ) (s : State) : ℕ → Type 0 where

@@ -12,15 +12,15 @@ use Rattle.alphabet.specs.Bits.{Below}
 use Rattle.alphabet.proofs.Below.{below-back, below-take}
 use Rattle.reading.specs.Limit.{limit}
 use Rattle.reading.specs.Reader.{State, refuses, step}
-use Rattle.stream.specs.Stream.{Status, live, shut, Stream, started, startOf}
-use Rattle.stream.specs.Calls.{Called, unmoved, stepOf}
-use Rattle.stream.specs.Reached.{begun}
-use Rattle.stream.specs.Driving.{Offer, Driven, begin, told, offer, drive}
-use Rattle.stream.specs.Promises.{TookAll, RefusedNext, NextNeedsRoom, GoesOn}
-use Rattle.stream.proofs.Order.{refusal-sticks}
-use Rattle.stream.proofs.Standing.{start-is, Standing, standing, step-stands}
-use Rattle.stream.proofs.Reaching.{standing-given}
-use Rattle.stream.proofs.GoesOn.{step-goes-on}
+use Rattle.streaming.specs.Stream.{Status, live, shut, Stream, started, startOf}
+use Rattle.streaming.specs.Calls.{Called, unmoved, stepOf}
+use Rattle.streaming.specs.Reached.{begun}
+use Rattle.streaming.specs.Driving.{Offer, Driven, begin, told, offer, drive}
+use Rattle.streaming.specs.Promises.{TookAll, RefusedNext, NextNeedsRoom, GoesOn}
+use Rattle.streaming.proofs.Order.{refusal-sticks}
+use Rattle.streaming.proofs.Standing.{start-is, Standing, standing, step-stands}
+use Rattle.streaming.proofs.Reaching.{standing-given}
+use Rattle.streaming.proofs.GoesOn.{step-goes-on}
 
 -- the stream goes on, or has refused the first byte left: at the limit, or by the reader's rule
 pub data How (a opts : ℕ) (left : List ℕ) (s : State) : Status → Type 0 where

@@ -12,9 +12,9 @@ use Rattle.reading.specs.Reader.{State, wants, heldBits, ending}
 use Rattle.reading.proofs.Building.{Fits}
 use Rattle.reading.proofs.OptionLaws.{allowed-alphabet}
 use Rattle.reading.proofs.Refusals.{SpareLeft, Blame, foreign, misplaced, spare, late, blame, Ended, whole, short, ended, ends-spare, refuser}
-use Rattle.stream.specs.Stream.{Status, live, shut, done, Stream}
-use Rattle.stream.specs.Given.{countsFit, padsFit, readable, spareLeft, refusable, statusFits, given}
-use Rattle.stream.proofs.Standing.{Refusal, at-limit, at-byte, at-end, Stands}
+use Rattle.streaming.specs.Stream.{Status, live, shut, done, Stream}
+use Rattle.streaming.specs.Given.{countsFit, padsFit, readable, spareLeft, refusable, statusFits, given}
+use Rattle.streaming.proofs.Standing.{Refusal, at-limit, at-byte, at-end, Stands}
 
 both : (p q : Bool) → p && q ≡ true → (p ≡ true) × (q ≡ true)
 both true q e = (refl, e)

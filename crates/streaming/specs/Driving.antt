@@ -4,8 +4,8 @@ use mathlib.Core.Path.{_≡_}
 use mathlib.Core.Logic.{_⊎_}
 use mathlib.Core.List.{List, [], _∷_, _++_}
 use lib.ListN.{take, drop}
-use Rattle.stream.specs.Stream.{shut, Stream}
-use Rattle.stream.specs.Calls.{Called, stepOf}
+use Rattle.streaming.specs.Stream.{shut, Stream}
+use Rattle.streaming.specs.Calls.{Called, stepOf}
 
 -- one call: so many bytes of the text that is left, or all, into so much room
 pub record Offer : Type 0 where

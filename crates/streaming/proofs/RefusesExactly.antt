@@ -19,14 +19,14 @@ use Rattle.reading.proofs.Joined.{reads-on, judged-refused}
 use Rattle.reading.proofs.Meaning.{promised}
 use Rattle.reading.proofs.Positions.{refuses-range}
 use Rattle.reading.proofs.Taking.{reads-one}
-use Rattle.stream.specs.Stream.{live, Stream}
-use Rattle.stream.specs.Calls.{Called, stepOf}
-use Rattle.stream.specs.Reached.{Calls, stepped}
-use Rattle.stream.specs.Promises.{AfterCalls, TookAll, RefusedNext, NextNeedsRoom, RefusesExactly}
-use Rattle.stream.proofs.Standing.{standing}
-use Rattle.stream.proofs.AfterCalls.{after-any-calls}
-use Rattle.stream.proofs.Reaching.{calls-given}
-use Rattle.stream.proofs.GoesOn.{step-goes-on}
+use Rattle.streaming.specs.Stream.{live, Stream}
+use Rattle.streaming.specs.Calls.{Called, stepOf}
+use Rattle.streaming.specs.Reached.{Calls, stepped}
+use Rattle.streaming.specs.Promises.{AfterCalls, TookAll, RefusedNext, NextNeedsRoom, RefusesExactly}
+use Rattle.streaming.proofs.Standing.{standing}
+use Rattle.streaming.proofs.AfterCalls.{after-any-calls}
+use Rattle.streaming.proofs.Reaching.{calls-given}
+use Rattle.streaming.proofs.GoesOn.{step-goes-on}
 
 -- ---- one byte after a text that is read
 

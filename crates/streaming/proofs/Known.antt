@@ -8,9 +8,9 @@ use Rattle.reading.specs.Limit.{limit}
 use Rattle.reading.specs.Reader.{ending, step, onPad, onDigit, passes, heldBits, wants}
 use Rattle.reading.specs.Piece.{onStep, run, whyAtLimit, atLimitRan, runPiece}
 use Rattle.reading.specs.Known.{same}
-use Rattle.stream.specs.Given.{countsFit, padsFit, readable, statusFits, given}
-use Rattle.stream.specs.Calls.{byStatus, inOrder, whyStatus, whyAnswer, ran, stepOf}
-use Rattle.stream.specs.Known.{gaveOut, first, second, streamed}
+use Rattle.streaming.specs.Given.{countsFit, padsFit, readable, statusFits, given}
+use Rattle.streaming.specs.Calls.{byStatus, inOrder, whyStatus, whyAnswer, ran, stepOf}
+use Rattle.streaming.specs.Known.{gaveOut, first, second, streamed}
 
 pub known : T streamed
 unfolding ascii bits group digits digit placeFrom value isDigit padded isPad tail chosen allowed dropped upper lower turned limit ending step onPad onDigit passes heldBits wants onStep run whyAtLimit atLimitRan runPiece same countsFit padsFit readable statusFits given byStatus inOrder whyStatus whyAnswer ran stepOf gaveOut first second streamed

@@ -14,13 +14,13 @@ use Rattle.reading.specs.Piece.{refused, stop, runPiece}
 use Rattle.reading.proofs.Building.{Leads, leads, led-fits}
 use Rattle.reading.proofs.OptionLaws.{allowed-alphabet}
 use Rattle.reading.proofs.Taking.{takes-all, refuses-one, refuses-at-limit}
-use Rattle.stream.specs.Stream.{Status, live, shut, done, Stream, started, freshStream, startOf}
-use Rattle.stream.specs.Given.{given}
-use Rattle.stream.specs.Calls.{Called, whyStatus, ran, stepOf, endStatus, closes, finishOf}
-use Rattle.stream.specs.Reached.{Calls, begun, stepped, closed, Reachable}
-use Rattle.stream.proofs.Order.{live-step, live-finish}
-use Rattle.stream.proofs.Standing.{Refusal, at-limit, at-byte, at-end, Stands, Standing, standing}
-use Rattle.stream.proofs.GivenLaws.{Readable, Sound, given-says, given-holds}
+use Rattle.streaming.specs.Stream.{Status, live, shut, done, Stream, started, freshStream, startOf}
+use Rattle.streaming.specs.Given.{given}
+use Rattle.streaming.specs.Calls.{Called, whyStatus, ran, stepOf, endStatus, closes, finishOf}
+use Rattle.streaming.specs.Reached.{Calls, begun, stepped, closed, Reachable}
+use Rattle.streaming.proofs.Order.{live-step, live-finish}
+use Rattle.streaming.proofs.Standing.{Refusal, at-limit, at-byte, at-end, Stands, Standing, standing}
+use Rattle.streaming.proofs.GivenLaws.{Readable, Sound, given-says, given-holds}
 
 -- ---- what calls give passes the test
 

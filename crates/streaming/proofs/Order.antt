@@ -5,10 +5,10 @@ use mathlib.Core.Bool.{true, false}
 use mathlib.Core.List.{List}
 use Rattle.reading.specs.Reader.{ending}
 use Rattle.reading.specs.Piece.{runPiece}
-use Rattle.stream.specs.Stream.{live, shut, done, Stream}
-use Rattle.stream.specs.Given.{given}
-use Rattle.stream.specs.Calls.{Called, unmoved, byStatus, inOrder, ran, stepOf, closes, finishOf}
-use Rattle.stream.specs.Promises.{Sticks}
+use Rattle.streaming.specs.Stream.{live, shut, done, Stream}
+use Rattle.streaming.specs.Given.{given}
+use Rattle.streaming.specs.Calls.{Called, unmoved, byStatus, inOrder, ran, stepOf, closes, finishOf}
+use Rattle.streaming.specs.Promises.{Sticks}
 
 module _ (s : Stream) where
   sticks : {k i : ℕ} → ((c : Called) → inOrder s c ≡ unmoved s k i) → Sticks s k i

@@ -16,15 +16,15 @@ use Rattle.reading.specs.Reader.{refuses, step, judged}
 use Rattle.reading.proofs.Meaning.{promised}
 use Rattle.reading.proofs.OptionLaws.{allowed-alphabet}
 use Rattle.reading.proofs.Joined.{judged-end, judged-past, judged-refused}
-use Rattle.stream.specs.Stream.{Status, live, shut, Stream, started, startOf}
-use Rattle.stream.specs.Calls.{unmoved, stepOf, closes, finishOf}
-use Rattle.stream.specs.Driving.{Offer, Driven, begin, told, offer, drive, Offering, Refused, Settled}
-use Rattle.stream.specs.Promises.{finishVerdict, Settles, GoesOn}
-use Rattle.stream.proofs.Order.{refusal-sticks, live-finish}
-use Rattle.stream.proofs.Reaching.{standing-given}
-use Rattle.stream.proofs.GoesOn.{step-goes-on}
-use Rattle.stream.proofs.Again.{live-shut, zero-finishes}
-use Rattle.stream.proofs.DrivingLaws.{How, goes, past, blames, Drove, offer-sticks, drove-offer, drove-all, drove-begin}
+use Rattle.streaming.specs.Stream.{Status, live, shut, Stream, started, startOf}
+use Rattle.streaming.specs.Calls.{unmoved, stepOf, closes, finishOf}
+use Rattle.streaming.specs.Driving.{Offer, Driven, begin, told, offer, drive, Offering, Refused, Settled}
+use Rattle.streaming.specs.Promises.{finishVerdict, Settles, GoesOn}
+use Rattle.streaming.proofs.Order.{refusal-sticks, live-finish}
+use Rattle.streaming.proofs.Reaching.{standing-given}
+use Rattle.streaming.proofs.GoesOn.{step-goes-on}
+use Rattle.streaming.proofs.Again.{live-shut, zero-finishes}
+use Rattle.streaming.proofs.DrivingLaws.{How, goes, past, blames, Drove, offer-sticks, drove-offer, drove-all, drove-begin}
 
 module _ {a opts : ℕ} (text : List ℕ) (d : Driven) (x : Drove a opts text d) where
   -- a finish writes nothing, so the verdict is what it tells of the bytes handed out

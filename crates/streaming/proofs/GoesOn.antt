@@ -15,13 +15,13 @@ use Rattle.reading.specs.Piece.{Why, all, refused, full, Ran}
 use Rattle.reading.proofs.PieceLaws.{NeedsRoom}
 use Rattle.reading.proofs.PieceLimit.{PieceFeeds, piece-feeds}
 use Rattle.reading.proofs.Taking.{reads-none}
-use Rattle.stream.specs.Stream.{live, Stream}
-use Rattle.stream.specs.Given.{given}
-use Rattle.stream.specs.Calls.{Called, whyStatus, whyAnswer, ran, stepOf}
-use Rattle.stream.specs.Driving.{Refused}
-use Rattle.stream.specs.Promises.{TookAll, RefusedNext, NextNeedsRoom, GoesOn}
-use Rattle.stream.proofs.Order.{live-step}
-use Rattle.stream.proofs.GivenLaws.{Sound, given-says}
+use Rattle.streaming.specs.Stream.{live, Stream}
+use Rattle.streaming.specs.Given.{given}
+use Rattle.streaming.specs.Calls.{Called, whyStatus, whyAnswer, ran, stepOf}
+use Rattle.streaming.specs.Driving.{Refused}
+use Rattle.streaming.specs.Promises.{TookAll, RefusedNext, NextNeedsRoom, GoesOn}
+use Rattle.streaming.proofs.Order.{live-step}
+use Rattle.streaming.proofs.GivenLaws.{Sound, given-says}
 
 -- the same of any call c
 abbrev Stops : ℕ → ℕ → List ℕ → ℕ → Called → Type 0
