@@ -5,23 +5,23 @@ use libc::STDOUT_FILENO;
 ghost use Prim.Native.Nat.{_≤_};
 
 // The smaller of two numbers.
-pub fn least(x: usize, y: usize) -> usize
+pub(crate) fn least(x: usize, y: usize) -> usize
     ensures { λ r. ⌜ r ≤ y ⌝ }
 {
     if x < y { x } else { y }
 }
 
-pub fn words(text: &[u8]) {
+pub(crate) fn words(text: &[u8]) {
     io::write_all(STDOUT_FILENO, text);
 }
 
-pub fn number(n: usize) {
+pub(crate) fn number(n: usize) {
     io::print_decimal(STDOUT_FILENO, n as u64);
     words(b" ");
 }
 
 // A line: what was asked, the three numbers of the answer, and as many bytes of the buffer as it counts.
-pub fn line(asked: &[u8], r: Outcome, out: &[u8]) {
+pub(crate) fn line(asked: &[u8], r: Outcome, out: &[u8]) {
     words(asked);
     words(b": ");
     number(numbers::answer(r) as usize);

@@ -26,7 +26,7 @@ fn offered(start: Reader) {
     say(b"finish", end, b"");
 }
 
-pub fn example() {
+pub(crate) fn example() {
     match Reader::start(0, 0) {
         Start::Started(reader) => offered(reader),
         Start::Declined(_) => show::words(b"declined"),
@@ -44,7 +44,7 @@ fn lent(start: Reader) {
     say(b"finish", end, b"");
 }
 
-pub fn lent_example() {
+pub(crate) fn lent_example() {
     match Reader::start(0, 0) {
         Start::Started(reader) => lent(reader),
         Start::Declined(_) => show::words(b"declined"),

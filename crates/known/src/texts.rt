@@ -43,12 +43,12 @@ fn table_2() {
     row(5, 0, b"6F");
 }
 
-pub fn table() {
+pub(crate) fn table() {
     table_1();
     table_2();
 }
 
-pub fn tidied() {
+pub(crate) fn tidied() {
     tidy(0, 8, b"Zh==");
     tidy(0, 4, b"Zm8");
     tidy(2, 16, b"my======");

@@ -27,7 +27,7 @@ fn each(alphabet: usize) {
     write(alphabet, b"foobar");
 }
 
-pub fn written() {
+pub(crate) fn written() {
     each(0);
     each(1);
     each(2);
@@ -96,7 +96,7 @@ fn read_5() {
     read_back(5, b"666f6f626172");
 }
 
-pub fn read() {
+pub(crate) fn read() {
     read_0();
     read_1();
     read_2();
