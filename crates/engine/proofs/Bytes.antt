@@ -11,9 +11,6 @@ use Rattle.alphabet.proofs.TableLaws.{symbol-is}
 use Rattle.reading.specs.Options.{allowed}
 use Rattle.reading.specs.Cleaning.{dropped, turned}
 use Rattle.reading.specs.Reader.{State, refuses, onDigit, onPad, step}
-use Rattle.engine.specs.declared.rule.Core.{Core}
-use Rattle.engine.specs.declared.rule.Took.{Took}
-use Rattle.engine.specs.Meaning.{stateOf, stepOf}
 use Rattle.reading.proofs.StepCases.{Digits, symbol-digits, symbol-pads, symbol-foreign, Stands, stands}
 use Rattle.reading.proofs.OptionLaws.{allowed-alphabet}
 
@@ -34,7 +31,3 @@ module _ {t : List ℕ} (a opts c : ℕ) (s : State) (e : t ≡ entries) (h : a 
 -- a digit as it stands
 pub plain-digit : {t : List ℕ} (a opts c : ℕ) {v : ℕ} (s : State) → t ≡ entries → allowed a opts ≡ true → c < 256 → symbolIn t a c ≡ Digit v → Stands a opts s c v
 plain-digit a opts c s e w l q = stands a opts s c w (told e (allowed-alphabet a opts w) l q)
-
-pub digit-does : {t : List ℕ} (a opts c : ℕ) {v : ℕ} (r : Took) (k : Core) → t ≡ entries → allowed a opts ≡ true → c < 256 → symbolIn t a c ≡ Digit v
-    → stepOf r ≡ onDigit a (stateOf k) v → stepOf r ≡ step a opts (stateOf k) c
-digit-does a opts c r k e w l q s = s ∙ sym (plain-digit a opts c (stateOf k) e w l q .is)
