@@ -24,3 +24,4 @@ pub mod Leaving
 pub mod HexSizes
 pub mod Cutting
 pub mod Ends
+pub mod LastDigit

@@ -48,3 +48,7 @@ module _ (b : ℕ) (ds : List ℕ) (v s n : ℕ) (few : s < b) (small : s < 8) (
   cleared-bytes =
       sym (regrouped-bytes b (ds ++ clearLow s v ∷ []) _ s _ (regrouped-last (clearLow s v) (shl-shr (v / 2 ^ s) s)))
       ∙ regrouped-bytes b (ds ++ v ∷ []) _ s _ (regrouped-last v refl)
+
+  -- the bits after the last whole byte are the last digit's low ones
+  pub left-low : leftOf b (ds ++ v ∷ []) ≡ v % 2 ^ s
+  left-low = sym (regrouped-left b (ds ++ v ∷ []) _ s _ (regrouped-last v refl))

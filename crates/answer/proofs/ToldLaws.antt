@@ -52,7 +52,8 @@ outcome : Told → Outcome
 outcome t =
     cond (eqb (t .answer) 0) (O.Accepted (record { 0 = t .position }) (record { 0 = t .count })) (O.Refused (kind (t .answer) (t .position)) (record { 0 = t .count }))
 
-refusal : (k : Kind) → eqb (number k) 0 ≡ false
+-- no refusal is answered 0
+pub refusal : (k : Kind) → eqb (number k) 0 ≡ false
 unfolding number
 refusal K.Choice = refl
 refusal (K.TooLong p) = refl

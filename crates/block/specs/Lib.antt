@@ -2,3 +2,4 @@ pub mod Whole
 pub mod Calls
 pub mod Answered
 pub mod Room
+pub mod Spelling

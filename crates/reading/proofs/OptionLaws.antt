@@ -3,8 +3,8 @@ use Prim.Native.Nat.{ℕ, _<_, _≤_}
 use mathlib.Core.Path.{_≡_, refl, sym, subst}
 use mathlib.Core.Bool.{Bool, true, false, not, _&&_}
 use lib.Dec.{T, ltb}
-use borrow.Author.Tests.{ltb-true, ltb-false}
-use Rattle.reading.specs.Options.{anyCase, allowed}
+use borrow.Author.Tests.{lt-ltb, ltb-true, ltb-false}
+use Rattle.reading.specs.Options.{chosen, anyCase, allowed}
 
 never : {P : Type 0} → false ≡ true → P
 never e = absurd (subst T (sym e) tt)
@@ -28,3 +28,8 @@ allowed-case a opts e c = go (ltb a 6) (ltb opts 32) (anyCase opts) c (ltb a 2) 
     go true true false c true f e = never c
     go true false z c true f e = never e
     go false y z c true f e = never e
+
+-- the strict choice is allowed for every alphabet
+pub strict-allowed : (a : ℕ) → a < 6 → allowed a 0 ≡ true
+unfolding allowed chosen
+strict-allowed a h = rw (lt-ltb a 6 h)
