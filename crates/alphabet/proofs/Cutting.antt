@@ -1,28 +1,21 @@
 -- Cutting a string of bits into runs of b bits: what a flow has given and holds is settled by what went in, and the digits of bytes are those
 -- of the full runs and the last run filled with zero bits. Assumes nothing.
-use Prim.Native.Nat.{ℕ, zero, suc, _+_, _-_, _*_, _/_, _%_, _^_, _<_, _≤_}
+use Prim.Native.Nat.{ℕ, suc, _+_, _-_, _*_, _/_, _%_, _^_, _<_, _≤_}
 use mathlib.Core.Path.{_≡_, refl, sym, ap, _∙_, subst}
 use mathlib.Core.Bool.{Bool}
 use mathlib.Core.List.{List, [], _∷_, _++_, append-assoc, append-nil}
-use native.Mathlib.Nat.{mod-lt, div-add-mod, mul-comm, mul-suc, mul-zero, add-zero, add-comm, div-eq-of-lt-le, add-mul, one-mul}
+use native.Mathlib.Nat.{div-add-mod, mul-comm, mul-suc, mul-zero, add-zero, add-comm, div-eq-of-lt-le, add-mul, one-mul}
 use native.Mathlib.Omega.{arith}
-use lib.ListN.{length, take, drop, length-append, length-take, length-drop, take-append-drop}
+use lib.ListN.{length, drop, length-append, length-drop, take-append-drop}
 use lib.Seq.{take-at, drop-at, drop-drop, drop-append-add}
 use lib.Pow.{pow-add, pow-pos, shr-lt}
 use lib.Arith.{digits-lt}
 use Rattle.alphabet.specs.Bits.{bitsOf, valueOf, unpack, pack, zeros, Below}
 use Rattle.alphabet.specs.Digits.{digitsOf}
-use Rattle.alphabet.proofs.BitLaws.{bits-length, bits-split, bits-mod, bits-join, bits-zero, bits-value-at, value-lt, value-bits, unpack-append, unpack-length, pack-length, pack-below, unpack-front, below-snoc}
-use Rattle.alphabet.proofs.DigitLaws.{Spells, spell-digits}
+use Rattle.alphabet.proofs.Below.{below-append, below-snoc}
+use Rattle.alphabet.proofs.Runs.{bits-length, bits-split, bits-mod, bits-join, bits-zero, bits-value-at, value-lt, value-bits, unpack-append, unpack-length, pack-below, unpack-front, unpack-one}
+use Rattle.alphabet.proofs.DigitLaws.{spell-digits}
 use Rattle.alphabet.proofs.Flow.{Flow, out-is}
-
-pub below-append : (m : ℕ) (xs ys : List ℕ) → Below m xs → Below m ys → Below m (xs ++ ys)
-below-append m [] ys h k = k
-below-append m (x ∷ xs) ys h k = (h .0, below-append m xs ys (h .1) k)
-
-pub unpack-one : (w x : ℕ) → unpack w (x ∷ []) ≡ bitsOf w x
-unfolding unpack
-unpack-one w x = append-nil (bitsOf w x)
 
 module _ (m w : ℕ) (pos : 0 < w) where
   -- the bits after what has come out, cut: their full runs come out too, and the rest is held

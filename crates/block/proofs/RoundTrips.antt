@@ -3,7 +3,7 @@
 use Prim.Native.Nat.{ℕ, _<_, _≤_}
 use mathlib.Core.Path.{_≡_, refl, sym, ap, _∙_}
 use mathlib.Core.Bool.{Bool, true, false, cond}
-use mathlib.Core.List.{List, []}
+use mathlib.Core.List.{List}
 use native.Mathlib.Omega.{arith}
 use lib.Dec.{eqb, ltb}
 use lib.ListN.{length}
@@ -19,7 +19,7 @@ use Rattle.reading.specs.Tidying.{Tidied}
 use Rattle.reading.proofs.OptionLaws.{allowed-alphabet, strict-allowed}
 use Rattle.reading.proofs.Strict.{strict-exactly}
 use Rattle.reading.proofs.Tidied.{tidied-again, written-reads-back}
-use Rattle.block.specs.Whole.{choice, noRoom, verdict, readOf, readBytes, tidyOf, tidyText}
+use Rattle.block.specs.Whole.{choice, noRoom, readOf, readBytes, tidyOf, tidyText}
 use Rattle.block.proofs.Answers.{promised-of}
 
 -- ---- a call with room for an accepted text

@@ -1,18 +1,17 @@
 -- What the tidier's functions do, as their code finds it: a byte that is no digit as it stands, a turn of the loop, and the last digit. Assumes
 -- nothing.
-use Prim.Native.Nat.{ℕ, _+_, _-_, _^_, _<_, _≤_, zero-le}
-use mathlib.Core.Path.{_≡_, refl, sym, ap, _∙_}
+use Prim.Native.Nat.{ℕ, _+_, _-_, _<_, _≤_, zero-le}
+use mathlib.Core.Path.{_≡_, sym, ap, _∙_}
 use mathlib.Core.Bool.{true, false}
 use mathlib.Core.List.{List, [], _∷_, _++_, append-nil}
 use native.Mathlib.Omega.{arith}
 use lib.ListN.{length, take, drop, getD, set, length-append, length-drop}
 use lib.Seq.{length-take-le, getD-take, take-all}
 use borrow.Author.Tests.{eq-eqb, ne-eqb}
-use Rattle.alphabet.specs.Alphabet.{bits, digit, value, isDigit}
+use Rattle.alphabet.specs.Alphabet.{digit, value, isDigit}
 use Rattle.alphabet.specs.Table.{symbolOf, digitEntries, digitIn}
-use Rattle.alphabet.specs.declared.table.Symbol.{Symbol}
 use Rattle.alphabet.specs.declared.table.Symbol.the-variants.{Digit, Pad, Neither}
-use Rattle.alphabet.proofs.Symbols.{is-pad, pad-is-no-digit, is-digit}
+use Rattle.alphabet.proofs.Symbols.{is-pad, pad-is-no-digit}
 use Rattle.alphabet.proofs.TableLaws.{symbol-digit, digit-symbol, pad-symbol, neither-symbol, digit-is}
 use Rattle.reading.specs.Options.{allowed}
 use Rattle.reading.specs.Cleaning.{dropped, turned}
@@ -20,7 +19,7 @@ use Rattle.reading.proofs.OptionLaws.{allowed-alphabet}
 use Rattle.engine.specs.Ran.{filled}
 use Rattle.engine.proofs.Loops.{stored}
 use Rattle.block.specs.Spelling.{spelt, lastOf, lastClear, Clearable}
-use Rattle.block.proofs.Buffers.{filled-length, own-front, set-front}
+use Rattle.block.proofs.Buffers.{own-front, set-front}
 use Rattle.block.proofs.SpellingLaws.{spelt-nothing, spelt-digit, spelt-none, spelt-stands, spelt-next, spelt-front}
 
 -- ---- a byte that is not dropped, by the symbol of the turned byte

@@ -18,7 +18,6 @@ use Rattle.answer.proofs.ToldLaws.{refusal}
 use Rattle.alphabet.specs.Alphabet.{group}
 use Rattle.alphabet.specs.Written.{wanting}
 use Rattle.reading.specs.Options.{allowed}
-use Rattle.reading.specs.Limit.{limit}
 use Rattle.reading.specs.Cleaning.{clean}
 use Rattle.reading.specs.Reader.{judged}
 use Rattle.reading.specs.Tidying.{Tidied}

@@ -1,19 +1,19 @@
 -- The cleaned text of an accepted one is spelled out of its digits: the state that its reader ends in says how many there are and which bits of the
 -- last are spare. Assumes nothing.
-use Prim.Native.Nat.{ℕ, _+_, _-_, _*_, _%_, _^_, _<_, _≤_}
+use Prim.Native.Nat.{ℕ, _+_, _-_, _*_, _%_, _^_, _<_}
 use mathlib.Core.Path.{_≡_, refl, sym, ap, _∙_}
 use mathlib.Core.Bool.{Bool, true, false, cond}
 use mathlib.Core.List.{List, [], _∷_, _++_, map, map-append}
 use native.Mathlib.Nat.{zero-mod}
 use native.Mathlib.Omega.{arith}
 use lib.Dec.{eqb}
-use lib.ListN.{length, getD, set, replicate, length-append, length-map}
+use lib.ListN.{length, getD, set, length-append, length-map}
 use lib.Seq.{getD-at, set-at}
-use borrow.Author.Tests.{eqb-true, eqb-false, eq-eqb, ne-eqb}
+use borrow.Author.Tests.{eqb-true, eqb-false}
 use Rattle.alphabet.specs.Bits.{Below}
 use Rattle.alphabet.specs.Digits.{digitsOf, bytesOf, leftOf}
-use Rattle.alphabet.specs.Alphabet.{bits, group, digit, value, isDigit, pad}
-use Rattle.alphabet.specs.Written.{wanting, spelled, written}
+use Rattle.alphabet.specs.Alphabet.{bits, group, digit, value}
+use Rattle.alphabet.specs.Written.{written}
 use Rattle.alphabet.proofs.AlphabetLaws.{value-digit}
 use Rattle.alphabet.proofs.Symbols.{digit-is}
 use Rattle.alphabet.proofs.SpareBits.{clearLow}

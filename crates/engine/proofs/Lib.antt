@@ -4,3 +4,4 @@ pub mod Bytes
 pub mod Loops
 pub mod AtLimit
 pub mod FromFresh
+pub mod States

@@ -1,13 +1,14 @@
 // The one test of a choice: an alphabet above 5, options above 31, or CASE with alphabet 0 or 1 is answered 1.
 ghost use mathlib.Core.Path.{_≡_};
-ghost use Prim.Native.Nat.{_<_};
 ghost use Rattle.reading.specs.Options as spec;
 
 // Whether the option of a weight is set in the sum.
-pub(crate) fn chosen(weight: usize, options: usize) -> bool
-    requires { ⌜ 0 < weight ⌝ }
+pub fn chosen(weight: usize, options: usize) -> bool
     ensures { λ r. ⌜ r ≡ spec.chosen weight options ⌝ }
 {
+    if weight == 0 {
+        return false;
+    }
     options / weight % 2 == 1
 }
 

@@ -275,7 +275,7 @@ fn small(alphabet: usize, digits: usize, held: u8) -> bool
 }
 
 // Whether the choice is allowed and the state is one that reading can go on from.
-fn ready(alphabet: usize, options: usize, k: Core) -> bool
+pub fn ready(alphabet: usize, options: usize, k: Core) -> bool
     ensures { λ r. ⌜ r ≡ Spec.ready alphabet options k ⌝ }
 {
     let digits = k.digits;

@@ -138,7 +138,7 @@ fn last_group(alphabet: usize, digits: usize) -> usize
 }
 
 // The pads that the last group wants.
-fn wants(alphabet: usize, digits: usize) -> usize
+pub fn wants(alphabet: usize, digits: usize) -> usize
     ensures { λ r. ⌜ r ≡ Alphabet.tail alphabet (digits % Alphabet.group alphabet) ⌝ }
 {
     let d = last_group(alphabet, digits);

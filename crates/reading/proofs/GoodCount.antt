@@ -8,8 +8,7 @@ use native.Mathlib.Omega.{arith}
 use lib.ListN.{length, take, length-map, length-take}
 use Rattle.alphabet.specs.Alphabet.{bits, isDigit}
 use Rattle.alphabet.proofs.AlphabetLaws.{bits-high}
-use Rattle.reading.specs.Limit.{limit}
-use Rattle.reading.specs.Cleaning.{dropped, kept, turned}
+use Rattle.reading.specs.Cleaning.{kept, turned}
 use Rattle.reading.specs.Reader.{judged}
 use Rattle.reading.specs.Promises.{Promised, countOf, digitsIn}
 use Rattle.reading.proofs.Tidied.{kept-shorter}

@@ -47,7 +47,7 @@ module _ (a opts : ℕ) (s : State) where
       clear : anySpare opts ≡ false → eqb (s .held) 0 || anySpare opts ≡ true → eqb (s .held) 0 ≡ true
       clear f e = sym (or-false (eqb (s .held) 0)) ∙ (rw f at e)
 
-  readable-says : readable a opts s ≡ true → Readable a opts s
+  pub readable-says : readable a opts s ≡ true → Readable a opts s
   unfolding readable
   readable-says e =
       let x = both (allowed a opts && countsFit opts s && ltb (s .held) (2 ^ heldBits a s)) _ e in
@@ -60,6 +60,14 @@ module _ (a opts : ℕ) (s : State) where
         within = n .0;
         fits = record { counts = n .1; exact = n .2; held = ltb-true (s .held) (2 ^ heldBits a s) (y .1); pads = p .0; clear = p .1 };
       }
+
+  pub readable-is : allowed a opts ≡ true → s .held < 2 ^ heldBits a s → readable a opts s ≡ countsFit opts s && padsFit a opts s
+  unfolding readable
+  readable-is e l = go (countsFit opts s) refl
+    where
+      go : (x : Bool) → countsFit opts s ≡ x → allowed a opts && countsFit opts s && ltb (s .held) (2 ^ heldBits a s) && padsFit a opts s ≡ countsFit opts s && padsFit a opts s
+      go true f = rw (e, f, lt-ltb (s .held) (2 ^ heldBits a s) l)
+      go false f = rw (e, f)
 
   readable-holds : Readable a opts s → readable a opts s ≡ true
   unfolding readable countsFit padsFit

@@ -11,3 +11,6 @@ pub mod AnyCutting
 pub mod RefusesExactly
 pub mod LimitCases
 pub mod Known
+pub mod Tests
+pub mod Causes
+pub mod Returns

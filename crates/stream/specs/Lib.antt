@@ -4,4 +4,6 @@ pub mod Calls
 pub mod Reached
 pub mod Driving
 pub mod Promises
+pub mod Stepped
+pub mod Packed
 pub mod Known

@@ -1,31 +1,28 @@
 -- T5 and T6: answer 9 exactly on states that no calls give; 9, 10 and an earlier refusal take and write nothing and return the state unchanged; and
 -- a step with a byte offered and room for it takes it or refuses it for the limit. Assumes nothing.
-use Prim.Native.Nat.{ℕ, zero, suc, _+_, _-_, _*_, _/_, _%_, _<_, _≤_}
+use Prim.Native.Nat.{ℕ, _<_}
 use mathlib.Core.Path.{_≡_, refl, sym, ap, _∙_, subst}
-use mathlib.Core.Logic.{_↔_, _⊎_, inl, inr}
+use mathlib.Core.Logic.{_↔_}
 use mathlib.Core.Bool.{Bool, true, false}
-use mathlib.Core.List.{List, [], _∷_, _++_}
+use mathlib.Core.List.{List}
 use native.Mathlib.Omega.{arith}
 use lib.Dec.{ltb}
-use lib.ListN.{length, take}
+use lib.ListN.{length}
 use Rattle.answer.specs.declared.Kind.{Kind}
 use Rattle.answer.specs.declared.Kind.the-variants as K
 use Rattle.answer.specs.declared.Outcome.{Outcome}
 use Rattle.answer.specs.Told.{Told, told}
 use Rattle.answer.proofs.ToldCases.{told-accepted, told-long, told-room, told-bad, told-finished}
-use Rattle.alphabet.specs.Alphabet.{bits}
-use Rattle.alphabet.specs.Written.{written}
-use Rattle.reading.specs.Limit.{limit}
 use Rattle.writing.specs.declared.Why.{Why}
 use Rattle.writing.specs.declared.Why.the-variants as W
 use Rattle.writing.specs.declared.Status.{Status}
 use Rattle.writing.specs.declared.Status.the-variants as U
 use Rattle.writing.specs.declared.Writer.{Writer}
-use Rattle.writing.specs.Front.{writtenLength, ending}
-use Rattle.writing.specs.Machine.{Run, fullRuns}
+use Rattle.writing.specs.Front.{ending}
+use Rattle.writing.specs.Machine.{Run}
 use Rattle.writing.specs.Stream.{at, count, sound, Turn, unmoved, byWhy, close, byStatus, inOrder, ranOf, stepOf, finishOf}
-use Rattle.writing.specs.Moment.{Reachable, After}
-use Rattle.writing.proofs.Promises.{bad-order, in-order, long-order, done-order, open-order}
+use Rattle.writing.specs.Moment.{Reachable}
+use Rattle.writing.proofs.Promises.{bad-order, in-order, long-order, done-order}
 use Rattle.writing.proofs.Reaching.{reached-passes, passes-reached}
 
 -- ---- answer 9

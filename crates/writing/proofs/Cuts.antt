@@ -1,21 +1,19 @@
 -- What `split` answers at a byte is what the definition says that the byte completes and keeps. Shown over the width. Assumes nothing.
-use Prim.Native.Nat.{ℕ, zero, suc, _+_, _-_, _*_, _/_, _%_, _^_, _<_, _≤_}
+use Prim.Native.Nat.{ℕ, _+_, _-_, _*_, _/_, _%_, _^_, _<_, _≤_}
 use mathlib.Core.Path.{_≡_, refl, sym, ap, _∙_, subst}
 use mathlib.Core.Bool.{Bool, true, false}
-use mathlib.Core.List.{List, [], _∷_, _++_}
-use native.Mathlib.Nat.{mod-lt, mod-eq-of-lt, mod-add-mod, mul-add-mod-self-left, mul-add, mul-one, mul-comm, div-eq-of-lt-le, one-mul, add-mul}
+use mathlib.Core.List.{List, [], _∷_}
+use native.Mathlib.Nat.{mod-lt, mod-eq-of-lt, mod-add-mod, mul-add-mod-self-left, mul-one, mul-comm, div-eq-of-lt-le, one-mul, add-mul}
 use native.Mathlib.Omega.{arith}
 use lib.Dec.{ltb}
-use lib.ListN.{length, drop}
+use lib.ListN.{length}
 use borrow.Author.Tests.{ltb-true, ltb-false}
-use lib.Pow.{pow-pos}
-use Rattle.alphabet.specs.Bits.{bitsOf, valueOf, pack}
+use Rattle.alphabet.specs.Bits.{bitsOf}
 use Rattle.alphabet.specs.Regroup.{cutUp}
 use Rattle.alphabet.specs.declared.regroup.Cut.{Cut}
 use Rattle.alphabet.specs.declared.regroup.Cut.the-variants.{One, Two}
-use Rattle.alphabet.proofs.BitLaws.{bits-join}
+use Rattle.alphabet.proofs.Runs.{bits-join, joined-lt}
 use Rattle.alphabet.proofs.Cutting.{pack-none, pack-bits, drop-bits, drop-no-run}
-use Rattle.alphabet.proofs.Runs.{joined-lt}
 use Rattle.alphabet.proofs.RegroupLaws.{rest-lt, cut-first-lt, cut-one, cut-second-lt, cut-two}
 use Rattle.writing.specs.Machine.{waiting, fullRuns, completes, keeps}
 

@@ -1,25 +1,25 @@
 -- What a finish adds: how long it is, and how it is laid into a buffer, the digit first and the pads after it. Assumes nothing.
-use Prim.Native.Nat.{ℕ, zero, suc, _+_, _-_, _*_, _/_, _%_, _^_, _<_, _≤_}
+use Prim.Native.Nat.{ℕ, suc, _+_, _-_, _*_, _/_, _%_, _^_, _<_, _≤_}
 use mathlib.Core.Path.{_≡_, refl, sym, ap, _∙_, subst}
 use mathlib.Core.Bool.{Bool, true, false}
-use mathlib.Core.List.{List, [], _∷_, _++_, append-assoc, append-nil}
-use native.Mathlib.Nat.{zero-add, add-zero, lt-of-lt-of-le, mod-lt}
+use mathlib.Core.List.{List, [], _∷_, append-assoc, append-nil}
+use native.Mathlib.Nat.{zero-add, add-zero, mod-lt}
 use native.Mathlib.Numerals.{add-one}
 use native.Mathlib.Omega.{arith}
 use lib.Arith.{digits-lt}
-use lib.Pow.{pow-add, pow-pos, pow-mono}
+use lib.Pow.{pow-add, pow-pos}
 use lib.Dec.{eqb}
-use lib.ListN.{length, take, drop, set, replicate, length-append, length-replicate, getD-replicate, take-append-drop}
+use lib.ListN.{length, take, set, replicate, length-append, length-replicate, getD-replicate, take-append-drop}
 use lib.Seq.{paste, paste-suc, take-length, take-suc-set, drop-set-lt}
 use borrow.Author.Tests.{eq-eqb, ne-eqb}
 use Rattle.alphabet.specs.Alphabet.{bits, group, digit, pad}
-use Rattle.alphabet.specs.Written.{wanting, written}
-use Rattle.alphabet.proofs.AlphabetLaws.{bits-low, bits-high}
-use Rattle.writing.specs.Front.{writtenLength, front, heldOf, ending, rest}
+use Rattle.alphabet.specs.Written.{wanting, written, writtenLength}
+use Rattle.alphabet.proofs.AlphabetLaws.{bits-low}
+use Rattle.alphabet.proofs.Lengths.{written-length}
+use Rattle.writing.specs.Front.{front, heldOf, ending, rest}
 use Rattle.writing.specs.Whole.{over}
 use Rattle.writing.specs.Contracts.{Sound}
 use Rattle.writing.proofs.FrontLaws.{front-length, front-rest}
-use Rattle.writing.proofs.LengthLaws.{written-length}
 
 module _ (a n held : ℕ) where
   pub ending-none : 8 * n % bits a ≡ 0 → ending a n held ≡ []

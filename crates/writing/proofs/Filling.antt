@@ -1,6 +1,6 @@
 -- A buffer that is filled from its front, over any run: at the head of the loop i bytes are taken, n are written, and `todo` is left of the run.
 -- Assumes nothing.
-use Prim.Native.Nat.{ℕ, _+_, _-_, _<_, _≤_, zero-le}
+use Prim.Native.Nat.{ℕ, _+_, _<_, _≤_, zero-le}
 use mathlib.Core.Path.{_≡_, refl, sym, ap, _∙_}
 use mathlib.Core.List.{List, [], _∷_, _++_, append-assoc, append-nil}
 use native.Mathlib.Nat.{add-assoc, add-zero, zero-add}
@@ -8,7 +8,6 @@ use native.Mathlib.Numerals.{add-one}
 use native.Mathlib.Omega.{arith}
 use lib.ListN.{length, take, drop, set, length-set, take-append-drop}
 use lib.Seq.{take-suc-set, drop-set-lt, length-take-le, drop-drop}
-use Rattle.writing.specs.declared.Ran.{Ran}
 use Rattle.writing.specs.declared.Why.{Why}
 use Rattle.writing.specs.Machine.{Run, after, stop}
 use Rattle.writing.specs.Contracts.{RanAs}

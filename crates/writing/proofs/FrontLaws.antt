@@ -1,22 +1,21 @@
 -- The front of a source and what is left of it: each byte adds the digits that it completes, and the rest makes the written form. Shown once over
 -- the width. Assumes nothing.
-use Prim.Native.Nat.{ℕ, zero, suc, _+_, _-_, _*_, _/_, _%_, _^_, _<_, _≤_}
-use mathlib.Core.Path.{_≡_, refl, sym, ap, _∙_, subst}
-use mathlib.Core.Logic.{_⊎_, inl, inr}
-use mathlib.Core.Bool.{Bool, true, false, cond}
+use Prim.Native.Nat.{ℕ, _+_, _*_, _/_, _%_, _<_}
+use mathlib.Core.Path.{_≡_, refl, sym, _∙_}
+use mathlib.Core.Bool.{Bool, true, false}
 use mathlib.Core.List.{List, [], _∷_, _++_, append-assoc, append-nil, map, map-append}
 use native.Mathlib.Nat.{mod-lt}
 use native.Mathlib.Omega.{arith}
 use lib.Dec.{eqb}
 use lib.ListN.{length, length-append, length-map}
 use borrow.Author.Tests.{eqb-true, eqb-false}
-use Rattle.alphabet.specs.Bits.{bitsOf, valueOf, unpack, pack}
+use Rattle.alphabet.specs.Bits.{unpack}
 use Rattle.alphabet.specs.Alphabet.{bits, digit}
 use Rattle.alphabet.specs.Written.{written}
-use Rattle.alphabet.proofs.BitLaws.{bits-length, unpack-append, pack-length}
+use Rattle.alphabet.proofs.Runs.{bits-length, unpack-append, pack-length, unpack-one}
 use Rattle.alphabet.proofs.AlphabetLaws.{bits-low}
 use Rattle.alphabet.proofs.Flow.{Flow, empty}
-use Rattle.alphabet.proofs.Cutting.{unpack-one, cut-flow, cut-start, flow-outs, flow-held, flow-bits}
+use Rattle.alphabet.proofs.Cutting.{cut-flow, cut-start, flow-outs, flow-held}
 use Rattle.alphabet.proofs.Ends.{written-full, written-filled}
 use Rattle.writing.specs.Front.{full, front, heldOf, ending, rest}
 use Rattle.writing.specs.Machine.{waiting, fullRuns, completes, keeps}

@@ -1,14 +1,15 @@
 -- The loop over a piece: what holds at its head, and that each kind of turn keeps it. The buffer's part is `Filling`, a byte's is `Cuts`.
 -- Assumes nothing.
-use Prim.Native.Nat.{ℕ, zero, suc, _+_, _-_, _*_, _/_, _%_, _^_, _<_, _≤_, zero-le}
-use mathlib.Core.Path.{_≡_, refl, sym, ap, _∙_, subst}
-use mathlib.Core.List.{List, [], _∷_, _++_, map}
+use Prim.Native.Nat.{ℕ, _+_, _-_, _*_, _/_, _%_, _^_, _<_, _≤_, zero-le}
+use mathlib.Core.Path.{_≡_, sym, ap, _∙_}
+use mathlib.Core.List.{List, map}
 use native.Mathlib.Nat.{sub-zero, add-zero, add-assoc, mod-lt}
 use native.Mathlib.Numerals.{add-one}
 use native.Mathlib.Omega.{arith}
 use lib.ListN.{length, drop, getD, set, length-set, drop-of-length-le}
 use lib.Seq.{drop-cons}
 use borrow.Author.Tests.{lt-ltb, le-ltb}
+use Rattle.alphabet.specs.Written.{writtenLength}
 use Rattle.alphabet.specs.Alphabet.{bits, digit}
 use Rattle.alphabet.specs.Regroup.{cutUp}
 use Rattle.alphabet.specs.Table.{digitEntries, digitIn}
@@ -16,10 +17,8 @@ use Rattle.alphabet.specs.declared.regroup.Cut.{Cut}
 use Rattle.alphabet.specs.declared.regroup.Cut.the-variants.{One, Two}
 use Rattle.alphabet.proofs.AlphabetLaws.{bits-low, bits-high}
 use Rattle.reading.specs.Limit.{limit}
-use Rattle.writing.specs.declared.Why.{Why}
 use Rattle.writing.specs.declared.Why.the-variants as W
-use Rattle.writing.specs.Front.{writtenLength}
-use Rattle.writing.specs.Machine.{Run, stop, after, fullRuns, completes, keeps, onByte, run}
+use Rattle.writing.specs.Machine.{stop, after, fullRuns, keeps, onByte, run}
 use Rattle.writing.specs.Contracts.{Sound, RanAs}
 use Rattle.writing.proofs.LengthLaws.{within-most, beyond-most, shorter-within}
 use Rattle.writing.proofs.Lent.{digit-of}

@@ -1,33 +1,32 @@
 -- T4: whatever calls were made from a start, the state is that of the source taken and the text handed out is the front of its written form, the
 -- whole of it after a finish. Assumes nothing.
-use Prim.Native.Nat.{ℕ, zero, suc, _+_, _-_, _*_, _/_, _%_, _^_, _<_, _≤_, zero-le}
+use Prim.Native.Nat.{ℕ, _+_, _*_, _%_, _^_, _<_, _≤_}
 use mathlib.Core.Path.{_≡_, refl, sym, ap, _∙_, subst}
-use mathlib.Core.Bool.{Bool, true, false, cond}
-use mathlib.Core.List.{List, [], _∷_, _++_, append-assoc, append-nil}
-use native.Mathlib.Nat.{add-zero}
+use mathlib.Core.Bool.{Bool, true, false}
+use mathlib.Core.List.{List, [], _∷_, _++_, append-nil}
 use native.Mathlib.Omega.{arith}
-use lib.Dec.{ltb, leb}
-use lib.ListN.{length, take, length-append, length-take}
+use lib.Dec.{ltb}
+use lib.ListN.{length, take, length-append}
 use lib.Seq.{length-take-le}
-use borrow.Author.Tests.{ltb-true, ltb-false, lt-ltb, le-leb}
+use borrow.Author.Tests.{ltb-true, lt-ltb, le-leb}
 use Rattle.alphabet.specs.Alphabet.{bits}
-use Rattle.alphabet.specs.Written.{written}
+use Rattle.alphabet.specs.Written.{written, writtenLength}
 use Rattle.alphabet.proofs.AlphabetLaws.{bits-low}
 use Rattle.answer.specs.declared.Kind.the-variants as K
+use Rattle.alphabet.proofs.Lengths.{written-length}
 use Rattle.reading.specs.Limit.{limit}
 use Rattle.writing.specs.declared.Why.{Why}
 use Rattle.writing.specs.declared.Why.the-variants as W
 use Rattle.writing.specs.declared.Status.{Status}
 use Rattle.writing.specs.declared.Status.the-variants as U
 use Rattle.writing.specs.declared.Writer.{Writer}
-use Rattle.writing.specs.declared.Start.{Start}
 use Rattle.writing.specs.declared.Start.the-variants as B
-use Rattle.writing.specs.Front.{writtenLength, front, heldOf, ending, rest}
-use Rattle.writing.specs.Machine.{Run, run}
-use Rattle.writing.specs.Stream.{fresh, startOf, fitsStatus, soundBy, sound, Turn, unmoved, moved, closed, byWhy, close, byStatus, inOrder, ranOf, stepOf, finishOf}
+use Rattle.writing.specs.Front.{front, heldOf, ending, rest}
+use Rattle.writing.specs.Machine.{Run}
+use Rattle.writing.specs.Stream.{fresh, startOf, fitsStatus, soundBy, sound, Turn, moved, byWhy, close, byStatus, inOrder, ranOf, stepOf, finishOf}
 use Rattle.writing.specs.Moment.{Calls, start, step, finish, handed, After}
 use Rattle.writing.proofs.FrontLaws.{held-none, full-flow, front-none, front-rest}
-use Rattle.writing.proofs.LengthLaws.{written-length, none-within}
+use Rattle.writing.proofs.LengthLaws.{none-within}
 use Rattle.writing.proofs.RunLaws.{RunAs, Because, run-means}
 
 -- one byte more, as a length

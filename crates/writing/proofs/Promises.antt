@@ -1,16 +1,14 @@
 -- What the stream's functions promise, from what their code returns: case by case, and the text handed out read off the buffer. Assumes nothing.
-use Prim.Native.Nat.{ℕ, _+_, _^_, _<_, _≤_}
-use mathlib.Core.Path.{_≡_, refl, sym, ap, _∙_, subst}
+use Prim.Native.Nat.{ℕ, _+_, _<_, _≤_}
+use mathlib.Core.Path.{_≡_, refl, sym, ap, _∙_}
 use mathlib.Core.Bool.{Bool, true, false, cond}
-use mathlib.Core.List.{List, [], _∷_, _++_}
-use native.Mathlib.Omega.{arith}
+use mathlib.Core.List.{List}
 use lib.Dec.{ltb}
-use lib.ListN.{length, take, drop}
+use lib.ListN.{length, drop}
 use lib.Seq.{paste, take-append-seam}
 use borrow.Author.Tests.{lt-ltb, le-ltb}
 use Rattle.answer.specs.declared.Kind.{Kind}
 use Rattle.answer.specs.declared.Kind.the-variants as K
-use Rattle.answer.specs.declared.Outcome.{Outcome}
 use Rattle.answer.specs.declared.Outcome.the-variants as O
 use Rattle.answer.specs.Told.{Told, told}
 use Rattle.answer.proofs.ToldCases.{told-accepted, told-refused}
@@ -24,7 +22,6 @@ use Rattle.writing.specs.declared.Stepped.{Stepped}
 use Rattle.writing.specs.Front.{ending}
 use Rattle.writing.specs.Machine.{Run}
 use Rattle.writing.specs.Stream.{at, count, sound, Turn, unmoved, closed, byWhy, close, byStatus, inOrder, ranOf, stepOf, finishOf}
-use Rattle.writing.specs.Moment.{After}
 use Rattle.writing.specs.Whole.{over}
 use Rattle.writing.specs.Contracts.{RanAs, given, asStepped, statusBy, outcomeBy, ranAs, opened, ClosedAs, handedOut, SteppedAs, FinishedAs}
 use Rattle.writing.proofs.NumberLaws.{step-numbers, finish-numbers}

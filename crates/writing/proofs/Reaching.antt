@@ -1,21 +1,21 @@
 -- T5: a state passes the test exactly if calls from a start give it. For each state that passes, a source and the calls that lead to it are built.
 -- Assumes nothing.
-use Prim.Native.Nat.{ℕ, zero, suc, _+_, _-_, _*_, _/_, _%_, _^_, _<_, _≤_}
+use Prim.Native.Nat.{ℕ, zero, suc, _+_, _*_, _%_, _^_, _<_, _≤_}
 use mathlib.Core.Path.{_≡_, refl, sym, ap, _∙_, subst}
-use mathlib.Core.Bool.{Bool, true, false}
+use mathlib.Core.Bool.{true}
 use mathlib.Core.List.{List, [], _∷_, _++_}
 use native.Mathlib.Nat.{zero-mod, mod-lt, lt-of-lt-of-le, add-zero, zero-add}
 use native.Mathlib.Numerals.{add-one}
 use native.Mathlib.Omega.{arith}
-use lib.Dec.{ltb}
 use lib.ListN.{length, replicate, length-append, length-replicate}
 use lib.Arith.{lt-one}
 use lib.Pow.{pow-mono}
 use borrow.Author.Tests.{lt-ltb, le-ltb, ltb-true}
+use Rattle.alphabet.specs.Written.{writtenLength}
 use Rattle.alphabet.specs.Bits.{Below}
 use Rattle.alphabet.specs.Alphabet.{bits}
 use Rattle.alphabet.proofs.AlphabetLaws.{bits-low, bits-high}
-use Rattle.alphabet.proofs.BitLaws.{below-snoc}
+use Rattle.alphabet.proofs.Below.{below-snoc}
 use Rattle.alphabet.proofs.Cutting.{low-held}
 use Rattle.reading.specs.Limit.{limit}
 use Rattle.writing.specs.declared.Why.{Why}
@@ -23,10 +23,9 @@ use Rattle.writing.specs.declared.Why.the-variants as W
 use Rattle.writing.specs.declared.Status.{Status}
 use Rattle.writing.specs.declared.Status.the-variants as U
 use Rattle.writing.specs.declared.Writer.{Writer}
-use Rattle.writing.specs.declared.Start.the-variants as B
-use Rattle.writing.specs.Front.{writtenLength, front, heldOf, ending}
+use Rattle.writing.specs.Front.{front, heldOf, ending}
 use Rattle.writing.specs.Machine.{Run, run, onByte}
-use Rattle.writing.specs.Stream.{fresh, startOf, fitsStatus, soundBy, sound, Turn, moved, closed, byWhy, close, ranOf, stepOf, finishOf}
+use Rattle.writing.specs.Stream.{fresh, startOf, fitsStatus, sound, Turn, closed, byWhy, close, ranOf, stepOf, finishOf}
 use Rattle.writing.specs.Moment.{Calls, start, step, finish, Reachable}
 use Rattle.writing.specs.Contracts.{Sound, opened}
 use Rattle.writing.proofs.FrontLaws.{held-none}

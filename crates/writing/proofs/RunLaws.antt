@@ -1,23 +1,24 @@
 -- A run over a piece after any source: it takes a start of the piece, gives exactly what the front grows by, holds the bits that are left, and
 -- stops only for 01's reasons. Assumes nothing.
-use Prim.Native.Nat.{ℕ, zero, suc, _+_, _-_, _*_, _/_, _%_, _<_, _≤_, zero-le}
+use Prim.Native.Nat.{ℕ, _+_, _-_, _<_, _≤_, zero-le}
 use mathlib.Core.Path.{_≡_, refl, sym, ap, _∙_, subst}
 use mathlib.Core.Bool.{Bool, true, false, cond}
 use mathlib.Core.List.{List, [], _∷_, _++_, append-assoc, append-nil, map}
 use native.Mathlib.Nat.{add-assoc, add-zero}
-use native.Mathlib.Numerals.{one-add, add-one}
+use native.Mathlib.Numerals.{one-add}
 use native.Mathlib.Omega.{arith}
 use lib.Dec.{ltb}
 use lib.ListN.{length, take, length-append, length-map}
 use borrow.Author.Tests.{ltb-true, ltb-false}
+use Rattle.alphabet.specs.Written.{writtenLength}
 use Rattle.alphabet.specs.Alphabet.{bits, digit}
 use Rattle.reading.specs.Limit.{limit}
 use Rattle.writing.specs.declared.Why.{Why}
 use Rattle.writing.specs.declared.Why.the-variants as W
-use Rattle.writing.specs.Front.{writtenLength, front, heldOf}
+use Rattle.writing.specs.Front.{front, heldOf}
 use Rattle.writing.specs.Machine.{Run, stop, after, fullRuns, completes, keeps, onByte, run}
 use Rattle.alphabet.proofs.AlphabetLaws.{bits-low}
-use Rattle.writing.proofs.FrontLaws.{held-snoc, front-snoc, front-length, completes-length}
+use Rattle.writing.proofs.FrontLaws.{held-snoc, front-snoc, completes-length}
 
 -- why a run that took k bytes of the piece stopped
 abbrev pub Because : Why → ℕ → List ℕ → List ℕ → ℕ → ℕ → Type 0

@@ -1,21 +1,20 @@
 -- The front of a source is exactly the longest start that the written forms of all its continuations share: a zero byte and a byte of ones after it
 -- differ in the next digit. Assumes nothing.
-use Prim.Native.Nat.{ℕ, zero, suc, _+_, _-_, _*_, _/_, _%_, _^_, _<_, _≤_}
-use mathlib.Core.Path.{_≡_, refl, sym, ap, _∙_, subst}
+use Prim.Native.Nat.{ℕ, suc, _+_, _-_, _*_, _/_, _%_, _^_, _<_, _≤_}
+use mathlib.Core.Path.{_≡_, refl, sym, ap, _∙_}
 use mathlib.Core.Bool.{Bool, true, false}
-use mathlib.Core.List.{List, [], _∷_, _++_, append-assoc, append-nil, map, map-append}
-use native.Mathlib.Nat.{mod-lt, zero-div, mul-assoc, mul-add-div-right, le-div-iff-mul-le, one-mul, lt-of-lt-of-le, add-zero}
+use mathlib.Core.List.{List, [], _∷_, _++_, append-assoc, map}
+use native.Mathlib.Nat.{mod-lt, zero-div, mul-assoc, mul-add-div-right, le-div-iff-mul-le, one-mul}
 use native.Mathlib.Omega.{arith}
 use lib.Dec.{ltb}
-use lib.ListN.{length, take, drop, getD, length-append, take-append-drop, List·getD-append}
+use lib.ListN.{length, take, drop, getD, take-append-drop, List·getD-append}
 use lib.Seq.{take-at, take-append-le, getD-append-seam}
 use lib.Pow.{pow-add, pow-mono, pow-pos, shr-lt}
 use borrow.Author.Tests.{ltb-true, ltb-false}
-use Rattle.alphabet.specs.Bits.{bitsOf, pack, Below}
+use Rattle.alphabet.specs.Bits.{bitsOf, pack}
 use Rattle.alphabet.specs.Alphabet.{bits, digit, value}
 use Rattle.alphabet.specs.Written.{written}
 use Rattle.alphabet.proofs.AlphabetLaws.{bits-low, bits-high, value-digit}
-use Rattle.alphabet.proofs.BitLaws.{bits-join}
 use Rattle.alphabet.proofs.Runs.{joined-lt}
 use Rattle.alphabet.proofs.Cutting.{pack-bits}
 use Rattle.writing.specs.Front.{front, heldOf, rest}

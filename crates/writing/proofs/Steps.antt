@@ -1,9 +1,9 @@
 -- What a step of an open writer takes and refuses after any source, that offering again ends, and that any cutting and any rooms give the same.
 -- Assumes nothing.
-use Prim.Native.Nat.{ℕ, zero, suc, _+_, _-_, _*_, _/_, _%_, _<_, _≤_}
-use mathlib.Core.Path.{_≡_, refl, sym, ap, _∙_, subst}
+use Prim.Native.Nat.{ℕ, zero, suc, _+_, _*_, _/_, _%_, _<_, _≤_}
+use mathlib.Core.Path.{_≡_, refl, sym, ap, _∙_}
 use mathlib.Core.Logic.{_↔_, _⊎_, inl, inr}
-use mathlib.Core.List.{List, [], _∷_, _++_}
+use mathlib.Core.List.{List, _∷_, _++_}
 use native.Mathlib.Nat.{div-lt-iff-lt-mul, mod-lt}
 use native.Mathlib.Omega.{arith}
 use lib.ListN.{length, take, length-append}
@@ -11,20 +11,20 @@ use lib.Seq.{length-take-le}
 use Rattle.answer.specs.Told.{Told, told}
 use Rattle.answer.proofs.ToldCases.{told-accepted, told-long, told-room}
 use Rattle.alphabet.specs.Alphabet.{bits}
-use Rattle.alphabet.specs.Written.{written}
-use Rattle.alphabet.proofs.AlphabetLaws.{bits-low, bits-high}
+use Rattle.alphabet.specs.Written.{written, writtenLength}
+use Rattle.alphabet.proofs.AlphabetLaws.{bits-low}
+use Rattle.alphabet.proofs.Lengths.{written-length}
 use Rattle.reading.specs.Limit.{limit}
 use Rattle.writing.specs.declared.Why.{Why}
 use Rattle.writing.specs.declared.Why.the-variants as W
 use Rattle.writing.specs.declared.Status.{Status}
 use Rattle.writing.specs.declared.Status.the-variants as U
 use Rattle.writing.specs.declared.Writer.{Writer}
-use Rattle.writing.specs.Front.{writtenLength, front, heldOf}
+use Rattle.writing.specs.Front.{front, heldOf}
 use Rattle.writing.specs.Machine.{Run, fullRuns}
 use Rattle.writing.specs.Stream.{at, count, byWhy, ranOf, stepOf}
 use Rattle.writing.specs.Moment.{Calls, After, handed}
-use Rattle.writing.proofs.LengthLaws.{written-length}
-use Rattle.writing.proofs.RunLaws.{Because, RunAs, front-more}
+use Rattle.writing.proofs.RunLaws.{Because, front-more}
 use Rattle.writing.proofs.Moments.{after-sound, ran-as, moments}
 use Rattle.writing.proofs.Promises.{open-order}
 

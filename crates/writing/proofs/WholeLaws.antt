@@ -1,9 +1,9 @@
 -- What the whole writer promises, case by case as its code goes. Assumes nothing.
 use Prim.Native.Nat.{ℕ, _+_, _*_, _/_, _<_, _≤_}
-use mathlib.Core.Path.{_≡_, refl, sym, ap, _∙_, subst}
-use mathlib.Core.List.{List, [], _++_, append-assoc}
+use mathlib.Core.Path.{_≡_, refl, sym, ap, _∙_}
+use mathlib.Core.List.{List}
 use native.Mathlib.Omega.{arith}
-use lib.ListN.{length, take, drop, length-append}
+use lib.ListN.{length, drop, length-append}
 use lib.Seq.{paste, take-length, take-at, drop-append-add, drop-drop}
 use borrow.Author.Tests.{lt-ltb, le-ltb}
 use Rattle.answer.specs.declared.Kind.the-variants as K
@@ -12,17 +12,18 @@ use Rattle.answer.specs.declared.Outcome.the-variants as O
 use Rattle.answer.specs.Told.{told}
 use Rattle.answer.proofs.ToldCases.{told-accepted, told-choice, told-long, told-room}
 use Rattle.alphabet.specs.Alphabet.{bits}
-use Rattle.alphabet.specs.Written.{written}
+use Rattle.alphabet.specs.Written.{written, writtenLength}
+use Rattle.alphabet.proofs.Lengths.{written-length}
 use Rattle.reading.specs.Limit.{limit}
 use Rattle.writing.specs.declared.Ran.{Ran}
-use Rattle.writing.specs.Front.{writtenLength, front, heldOf, ending, rest}
+use Rattle.writing.specs.Front.{front, heldOf, ending, rest}
 use Rattle.writing.specs.Machine.{run}
 use Rattle.writing.specs.Stream.{at, count}
 use Rattle.writing.specs.Whole.{over, Wrote, nothing, writeOf}
 use Rattle.writing.specs.Contracts.{Sound, RanAs, WroteAs}
 use Rattle.alphabet.proofs.AlphabetLaws.{bits-low}
 use Rattle.writing.proofs.FrontLaws.{full-flow, front-length, front-rest}
-use Rattle.writing.proofs.LengthLaws.{written-length, within-most, beyond-most}
+use Rattle.writing.proofs.LengthLaws.{within-most, beyond-most}
 use Rattle.writing.proofs.EndingLaws.{ending-length}
 use Rattle.writing.proofs.Through.{Through, runs-through}
 

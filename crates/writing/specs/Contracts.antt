@@ -8,9 +8,9 @@ use Rattle.answer.specs.declared.Outcome.{Outcome}
 use Rattle.answer.specs.declared.Outcome.the-variants as O
 use Rattle.answer.specs.Told.{told}
 use Rattle.alphabet.specs.Alphabet.{bits}
-use Rattle.alphabet.specs.Written.{written}
+use Rattle.alphabet.specs.Written.{written, writtenLength}
 use Rattle.reading.specs.Limit.{limit}
-use Rattle.writing.specs.Front.{writtenLength, ending}
+use Rattle.writing.specs.Front.{ending}
 use Rattle.writing.specs.Machine.{Run}
 use Rattle.writing.specs.Stream.{at, count, Turn, close, stepOf, finishOf}
 use Rattle.writing.specs.Numbers.{stepNumbers, finishNumbers}

@@ -7,12 +7,7 @@ use lib.Dec.{eqb}
 use lib.ListN.{length, drop, replicate}
 use Rattle.alphabet.specs.Bits.{valueOf, unpack, pack}
 use Rattle.alphabet.specs.Alphabet.{bits, group, digit, pad}
-use Rattle.alphabet.specs.Digits.{digitCount}
 use Rattle.alphabet.specs.Written.{wanting}
-
--- the length of the written form of n bytes
-unfoldable pub writtenLength : ℕ → ℕ → ℕ
-writtenLength a n = digitCount (bits a) n + wanting (group a) (digitCount (bits a) n)
 
 -- the values of the first floor(8n/b) runs of b bits
 unfoldable pub full : ℕ → List ℕ → List ℕ

@@ -5,6 +5,7 @@ use mathlib.Core.Bool.{Bool, true, cond, _&&_}
 use mathlib.Core.List.{List, []}
 use lib.Dec.{ltb, leb}
 use lib.ListN.{length}
+use Rattle.alphabet.specs.Written.{writtenLength}
 use Rattle.answer.specs.declared.Place.{Place}
 use Rattle.answer.specs.declared.Count.{Count}
 use Rattle.answer.specs.declared.Kind.{Kind}
@@ -13,7 +14,7 @@ use Rattle.answer.specs.declared.Outcome.{Outcome}
 use Rattle.answer.specs.declared.Outcome.the-variants as O
 use Rattle.alphabet.specs.Alphabet.{bits}
 use Rattle.reading.specs.Limit.{limit}
-use Rattle.writing.specs.Front.{writtenLength, ending}
+use Rattle.writing.specs.Front.{ending}
 use Rattle.writing.specs.Machine.{Run, run}
 use Rattle.writing.specs.declared.Why.{Why}
 use Rattle.writing.specs.declared.Why.the-variants as W

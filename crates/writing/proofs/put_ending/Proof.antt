@@ -1,14 +1,13 @@
 -- The last digit and the pads, laid into a buffer. Assumes nothing.
-use Prim.Native.Nat.{ℕ, suc, _+_, _-_, _*_, _/_, _%_, _^_, _<_, _≤_}
-use mathlib.Core.Path.{_≡_, refl, sym, ap, _∙_}
-use mathlib.Core.List.{List, [], _∷_}
+use Prim.Native.Nat.{_+_, _-_, _*_, _/_, _%_, _^_, _<_, _≤_}
+use mathlib.Core.Path.{_≡_, ap, _∙_}
+use mathlib.Core.List.{_∷_}
 use native.Mathlib.Nat.{mod-lt, lt-of-lt-of-le}
 use native.Mathlib.Omega.{arith}
-use lib.ListN.{length, set, replicate, length-set}
+use lib.ListN.{length, replicate, length-set}
 use lib.Pow.{pow-mono}
-use lib.Seq.{paste}
 use borrow.Author.Needs.{needs}
-use Rattle.alphabet.specs.Alphabet.{bits, digit, pad}
+use Rattle.alphabet.specs.Alphabet.{digit, pad}
 use Rattle.alphabet.specs.Table.{digitIn}
 use Rattle.alphabet.proofs.AlphabetLaws.{bits-low, bits-high}
 use Rattle.writing.specs.Front.{ending}
@@ -17,8 +16,6 @@ use Rattle.writing.proofs.Lent.{digit-of}
 use Rattle.writing.proofs.EndingLaws.{ending-none, whole-length, ending-is, some-ending, value-lt, paste-none, laid}
 use Rattle.writing.proofs.put_ending.Statement.{statement}
 use Rattle.writing.proofs.put_ending.Tie as tie
-use Rattle.writing.proofs.put_ending.Reads as reads
-use Rattle.writing.proofs.put_ending.Lts as lts
 
 bits-requires : tie.Need-bits-requires
 bits-requires c κs = search needs

@@ -1,9 +1,9 @@
 -- The loop over a piece meets the definition of a run. Assumes nothing.
-use Prim.Native.Nat.{_+_, _-_, _≤_, _<_}
+use Prim.Native.Nat.{_+_, _-_}
 use mathlib.Core.Path.{_≡_, refl, sym, _∙_}
 use native.Mathlib.Omega.{arith}
 use borrow.Author.Needs.{needs}
-use lib.ListN.{length, getD}
+use lib.ListN.{getD}
 use Rattle.alphabet.specs.declared.regroup.Cut.{Cut}
 use Rattle.alphabet.proofs.AlphabetLaws.{bits-low, bits-high}
 use Rattle.writing.proofs.LengthLaws.{within-most, source-small}
@@ -11,13 +11,6 @@ use Rattle.writing.proofs.Cuts.{Says}
 use Rattle.writing.proofs.Going.{Going, bounds-of, begins, ends, past-limit, sizes, byte-cut, took-one, took-two, lacks-room}
 use Rattle.writing.proofs.run.Statement.{statement}
 use Rattle.writing.proofs.run.Tie as tie
-use Rattle.writing.proofs.run.Reads as reads
-use Rattle.writing.proofs.run.Lts as lts
-use Rattle.alphabet.proofs.regroup.split.Reads as split-reads
-use Rattle.alphabet.proofs.sizes.bits.Reads as bits-reads
-use Rattle.alphabet.proofs.table.digit.Reads as digit-reads
-use Rattle.writing.proofs.least.Reads as least-reads
-use Rattle.writing.proofs.longest.Reads as longest-reads
 
 abbrev Inv-loop : tie.InvT-loop
 Inv-loop t alphabet taken held piece out₀ b end few₀ h₀ i₀ n₀ out few h i n = Going t alphabet taken held piece out₀ b end out few h i n

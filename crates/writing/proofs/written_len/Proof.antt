@@ -4,9 +4,9 @@ use mathlib.Core.Path.{_≡_}
 use native.Mathlib.Nat.{mod-lt, le-of-lt}
 use native.Mathlib.Omega.{arith}
 use borrow.Author.Needs.{needs}
+use Rattle.alphabet.specs.Written.{writtenLength}
 use Rattle.alphabet.proofs.AlphabetLaws.{bits-low, bits-high, group-pos}
 use Rattle.reading.proofs.LimitLaws.{limit-small}
-use Rattle.writing.specs.Front.{writtenLength}
 use Rattle.writing.proofs.LengthLaws.{source-small, length-full, length-padded}
 use Rattle.writing.proofs.written_len.Statement.{statement}
 use Rattle.writing.proofs.written_len.Tie as tie

@@ -1,5 +1,5 @@
 -- `judging::judge`: the count stands for the verdict. Assumes nothing.
-use mathlib.Core.Path.{_≡_, ap, _∙_}
+use mathlib.Core.Path.{ap, _∙_}
 use Rattle.block.specs.Answered.{answered}
 use Rattle.block.proofs.Answers.{promised-of, count-answers}
 use borrow.Author.Needs.{needs}

@@ -1,6 +1,5 @@
 -- `judging::outcome`: by why the run stopped, and at the end by what the end gives. Assumes nothing.
 use Rattle.answer.specs.Told.{number, position, told}
-use Rattle.engine.specs.Meaning as Engine
 use Rattle.block.specs.Answered.{answeredBy}
 use borrow.Author.Needs.{needs}
 use Rattle.block.proofs.judging.outcome.Statement.{statement}
@@ -39,7 +38,9 @@ returns c = rw (c .before .before .before .enum-told .given .1, ← c .before .b
 
 returns-2 : tie.Need-returns-2
 unfolding told number position answeredBy
-returns-2 c = let e = c .before .before .before .before in rw (e .before .enum-told .given .1, ← e .ending .ensures, c .before .before .cause .given .1, ← c .kind .ensures .0, c .kind .ensures .1)
+returns-2 c =
+    let e = c .before .before .before .before in
+    rw (e .before .enum-told .given .1, ← e .ending .ensures, c .before .before .cause .given .1, ← c .kind .ensures .0, c .kind .ensures .1)
 
 returns-3 : tie.Need-returns-3
 unfolding told number position answeredBy

@@ -14,18 +14,26 @@ limit-requires : tie.Need-limit-requires
 limit-requires c κs = search needs
 
 mul-result : tie.Need-mul-result
-mul-result c = let l = c .before in rw (l .before .bits .ensures) (record { fits = omega (arith, small-product (l .before .before .args .alphabet) (l .before .before .args .len) (l .before .before .pre) (omega (arith, l .limit .ensures, c .if1 .taken))) })
+mul-result c =
+    let l = c .before in
+    rw (l .before .bits .ensures) (record { fits = omega (arith, small-product (l .before .before .args .alphabet) (l .before .before .args .len) (l .before .before .pre) (omega (arith, l .limit .ensures, c .if1 .taken))) })
 
 returns : tie.Need-returns
 unfolding mostOf
-returns c = let l = c .before in rw (l .before .bits .ensures) (rw (lt-ltb _ _ (rw (l .limit .ensures) at (c .if1 .taken))))
+returns c =
+    let l = c .before in
+    rw (l .before .bits .ensures) (rw (lt-ltb _ _ (rw (l .limit .ensures) at (c .if1 .taken))))
 
 mul-result-2 : tie.Need-mul-result-2
-mul-result-2 c = let l = c .before in rw (l .before .bits .ensures) (record { fits = omega (arith, small-product (l .before .before .args .alphabet) (l .limit .result) (l .before .before .pre) (omega (arith, l .limit .ensures))) })
+mul-result-2 c =
+    let l = c .before in
+    rw (l .before .bits .ensures) (record { fits = omega (arith, small-product (l .before .before .args .alphabet) (l .limit .result) (l .before .before .pre) (omega (arith, l .limit .ensures))) })
 
 returns-2 : tie.Need-returns-2
 unfolding mostOf
-returns-2 c = let l = c .before in rw (l .before .bits .ensures, l .limit .ensures) (rw (le-ltb _ _ (rw (l .limit .ensures) at (c .if1 .left))))
+returns-2 c =
+    let l = c .before in
+    rw (l .before .bits .ensures, l .limit .ensures) (rw (le-ltb _ _ (rw (l .limit .ensures) at (c .if1 .left))))
 
 pub most-spec : {M : Type 1} → statement M
 most-spec =

@@ -21,7 +21,9 @@ count-requires c κs = search needs
 
 returns-2 : tie.Need-returns-2
 unfolding neededOf
-returns-2 c = let m = c .before .before in rw (lt-leb _ _ (rw (m .most .ensures) at (c .before .if1 .left))) (ap (λ (r : Ran). r .wrote) (c .count .ensures) ∙ counted _ _ _ 0 (m .before .before .pre))
+returns-2 c =
+    let m = c .before .before in
+    rw (lt-leb _ _ (rw (m .most .ensures) at (c .before .if1 .left))) (ap (λ (r : Ran). r .wrote) (c .count .ensures) ∙ counted _ _ _ 0 (m .before .before .pre))
 
 pub needed-spec : {M : Type 1} → statement M
 needed-spec = tie.close (tie.spec most-requires returns count-requires returns-2)

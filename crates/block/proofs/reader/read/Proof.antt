@@ -12,7 +12,9 @@ needed-requires : tie.Need-needed-requires
 needed-requires c κs = sym (c .before .allowed .ensures) ∙ c .if1 .taken
 
 returns : tie.Need-returns
-returns c = let n = c .before in lacking _ _ _ _ (sym (n .before .before .allowed .ensures) ∙ n .before .if1 .taken) (n .needed .ensures) (c .if2 .taken)
+returns c =
+    let n = c .before in
+    lacking _ _ _ _ (sym (n .before .before .allowed .ensures) ∙ n .before .if1 .taken) (n .needed .ensures) (c .if2 .taken)
 
 fresh-requires : tie.Need-fresh-requires
 fresh-requires c κs = search needs
@@ -27,7 +29,11 @@ same-length : tie.Need-same-length
 same-length c = search needs
 
 returns-2 : tie.Need-returns-2
-returns-2 c = let r = c .before .before .before in let f = r .before .before in let n = f .before .before in read-through _ _ _ _ (sym (n .before .before .allowed .ensures) ∙ n .before .if1 .taken) (n .needed .ensures) (f .before .if2 .left) (f .fresh .ensures) (r .run .ensures) (c .outcome .ensures)
+returns-2 c =
+    let r = c .before .before .before in
+    let f = r .before .before in
+    let n = f .before .before in
+    read-through _ _ _ _ (sym (n .before .before .allowed .ensures) ∙ n .before .if1 .taken) (n .needed .ensures) (f .before .if2 .left) (f .fresh .ensures) (r .run .ensures) (c .outcome .ensures)
 
 returns-3 : tie.Need-returns-3
 returns-3 c = declined _ _ _ _ (sym (c .before .allowed .ensures) ∙ c .if1 .left)

@@ -9,13 +9,21 @@ use Rattle.block.proofs.tidier.clear_last.Statement.{statement}
 use Rattle.block.proofs.tidier.clear_last.Tie as tie
 
 returns : tie.Need-returns
-returns c = let s = c .before .before in none-held (s .args .alphabet) (s .args .held) (s .args .n) (s .args .out .now) (s .pre .1 .0) (s .pre .1 .1 .0) (c .if1 .taken)
+returns c =
+    let s = c .before .before in
+    none-held (s .args .alphabet) (s .args .held) (s .args .n) (s .args .out .now) (s .pre .1 .0) (s .pre .1 .1 .0) (c .if1 .taken)
 
 sub-last : tie.Need-sub-last
-sub-last c = let e = c in let s = e .before .before in last-in (s .args .alphabet) (s .args .held) (s .args .n) (s .args .out .now) (s .pre .1 .0) (s .pre .1 .1 .0) (e .if1 .left) (s .pre .1 .1 .1) .0
+sub-last c =
+    let e = c in
+    let s = e .before .before in
+    last-in (s .args .alphabet) (s .args .held) (s .args .n) (s .args .out .now) (s .pre .1 .0) (s .pre .1 .1 .0) (e .if1 .left) (s .pre .1 .1 .1) .0
 
 slice-read-byte : tie.Need-slice-read-byte
-slice-read-byte c = let e = c .before in let s = e .before .before in last-in (s .args .alphabet) (s .args .held) (s .args .n) (s .args .out .now) (s .pre .1 .0) (s .pre .1 .1 .0) (e .if1 .left) (s .pre .1 .1 .1) .1
+slice-read-byte c =
+    let e = c .before in
+    let s = e .before .before in
+    last-in (s .args .alphabet) (s .args .held) (s .args .n) (s .args .out .now) (s .pre .1 .0) (s .pre .1 .1 .0) (e .if1 .left) (s .pre .1 .1 .1) .1
 
 lookup-requires : tie.Need-lookup-requires
 lookup-requires c κs = search needs
@@ -27,13 +35,21 @@ digits-requires : tie.Need-digits-requires
 digits-requires c κs = search needs
 
 sub-digit : tie.Need-sub-digit
-sub-digit c = let v = c .before .before .before in let l = v .before .before in let e = l .before .before in let s = e .before .before in held-low (s .args .alphabet) (s .args .held) (s .args .n) (s .args .out .now) (s .pre .1 .0) (s .pre .1 .1 .0) (e .if1 .left) (s .pre .1 .1 .1) (told (s .pre .0) (s .pre .1 .0) (omega (arith, l .before .slice-known2 .given (s .args .n - 1))) (sym (l .lookup .ensures) ∙ v .v .given .1))
+sub-digit c =
+    let v = c .before .before .before in
+    let l = v .before .before in
+    let e = l .before .before in
+    let s = e .before .before in
+    held-low (s .args .alphabet) (s .args .held) (s .args .n) (s .args .out .now) (s .pre .1 .0) (s .pre .1 .1 .0) (e .if1 .left) (s .pre .1 .1 .1) (told (s .pre .0) (s .pre .1 .0) (omega (arith, l .before .slice-known2 .given (s .args .n - 1))) (sym (l .lookup .ensures) ∙ v .v .given .1))
 
 digit-requires : tie.Need-digit-requires
 digit-requires c κs = search needs
 
 slice-write-out : tie.Need-slice-write-out
-slice-write-out c = let e = c .before .before .before .before .before .before .before .before in let s = e .before .before in last-in (s .args .alphabet) (s .args .held) (s .args .n) (s .args .out .now) (s .pre .1 .0) (s .pre .1 .1 .0) (e .if1 .left) (s .pre .1 .1 .1) .1
+slice-write-out c =
+    let e = c .before .before .before .before .before .before .before .before in
+    let s = e .before .before in
+    last-in (s .args .alphabet) (s .args .held) (s .args .n) (s .args .out .now) (s .pre .1 .0) (s .pre .1 .1 .0) (e .if1 .left) (s .pre .1 .1 .1) .1
 
 enum-told : tie.Need-enum-told
 enum-told c = search needs
@@ -45,13 +61,26 @@ same-length : tie.Need-same-length
 same-length c = search needs
 
 returns-2 : tie.Need-returns-2
-returns-2 c = let v = c .before .before .before .before in let l = v .before .before in let e = l .before .before in let s = e .before .before in last-cleared (s .args .alphabet) (s .args .held) (s .args .n) (s .args .out .now) (s .pre .1 .0) (s .pre .1 .1 .0) (e .if1 .left) (s .pre .1 .1 .1) (told (s .pre .0) (s .pre .1 .0) (omega (arith, l .before .slice-known2 .given (s .args .n - 1))) (sym (l .lookup .ensures) ∙ v .v .given .1)) (c .before .before .digits .ensures) (c .digit .ensures)
+returns-2 c =
+    let v = c .before .before .before .before in
+    let l = v .before .before in
+    let e = l .before .before in
+    let s = e .before .before in
+    last-cleared (s .args .alphabet) (s .args .held) (s .args .n) (s .args .out .now) (s .pre .1 .0) (s .pre .1 .1 .0) (e .if1 .left) (s .pre .1 .1 .1) (told (s .pre .0) (s .pre .1 .0) (omega (arith, l .before .slice-known2 .given (s .args .n - 1))) (sym (l .lookup .ensures) ∙ v .v .given .1)) (c .before .before .digits .ensures) (c .digit .ensures)
 
 returns-3 : tie.Need-returns-3
-returns-3 c = let l = c .before .before in let e = l .before .before in let s = e .before .before in absurd (last-no-pad (s .args .alphabet) (s .args .held) (s .args .n) (s .args .out .now) (s .pre .1 .0) (s .pre .1 .1 .0) (e .if1 .left) (s .pre .1 .1 .1) (told (s .pre .0) (s .pre .1 .0) (omega (arith, l .before .slice-known2 .given (s .args .n - 1))) (sym (l .lookup .ensures) ∙ c .enum-told .given .1)))
+returns-3 c =
+    let l = c .before .before in
+    let e = l .before .before in
+    let s = e .before .before in
+    absurd (last-no-pad (s .args .alphabet) (s .args .held) (s .args .n) (s .args .out .now) (s .pre .1 .0) (s .pre .1 .1 .0) (e .if1 .left) (s .pre .1 .1 .1) (told (s .pre .0) (s .pre .1 .0) (omega (arith, l .before .slice-known2 .given (s .args .n - 1))) (sym (l .lookup .ensures) ∙ c .enum-told .given .1)))
 
 returns-4 : tie.Need-returns-4
-returns-4 c = let l = c .before .before in let e = l .before .before in let s = e .before .before in absurd (last-no-other (s .args .alphabet) (s .args .held) (s .args .n) (s .args .out .now) (s .pre .1 .0) (s .pre .1 .1 .0) (e .if1 .left) (s .pre .1 .1 .1) (told (s .pre .0) (s .pre .1 .0) (omega (arith, l .before .slice-known2 .given (s .args .n - 1))) (sym (l .lookup .ensures) ∙ c .enum-told2 .given .1)))
+returns-4 c =
+    let l = c .before .before in
+    let e = l .before .before in
+    let s = e .before .before in
+    absurd (last-no-other (s .args .alphabet) (s .args .held) (s .args .n) (s .args .out .now) (s .pre .1 .0) (s .pre .1 .1 .0) (e .if1 .left) (s .pre .1 .1 .1) (told (s .pre .0) (s .pre .1 .0) (omega (arith, l .before .slice-known2 .given (s .args .n - 1))) (sym (l .lookup .ensures) ∙ c .enum-told2 .given .1)))
 
 pub clear-last-spec : {M : Type 1} → statement M
 clear-last-spec =

@@ -32,15 +32,30 @@ enum-told-3 c = search needs
 
 returns-2 : tie.Need-returns-2
 unfolding ownText
-returns-2 c = let l = c .before .before in let u = l .before in let d = u .before .before in let s = d .before in own-digit _ _ _ (s .pre .1) (sym (d .dropped .ensures) ∙ u .before .if1 .left) (u .turned .ensures) (told (s .pre .0) (s .pre .1) (search needs) (sym (l .lookup .ensures) ∙ c .enum-told .given .1))
+returns-2 c =
+    let l = c .before .before in
+    let u = l .before in
+    let d = u .before .before in
+    let s = d .before in
+    own-digit _ _ _ (s .pre .1) (sym (d .dropped .ensures) ∙ u .before .if1 .left) (u .turned .ensures) (told (s .pre .0) (s .pre .1) (search needs) (sym (l .lookup .ensures) ∙ c .enum-told .given .1))
 
 returns-3 : tie.Need-returns-3
 unfolding ownText
-returns-3 c = let l = c .before .before in let u = l .before in let d = u .before .before in let s = d .before in own-pad _ _ _ (s .pre .1) (sym (d .dropped .ensures) ∙ u .before .if1 .left) (u .turned .ensures) (told (s .pre .0) (s .pre .1) (search needs) (sym (l .lookup .ensures) ∙ c .enum-told2 .given .1))
+returns-3 c =
+    let l = c .before .before in
+    let u = l .before in
+    let d = u .before .before in
+    let s = d .before in
+    own-pad _ _ _ (s .pre .1) (sym (d .dropped .ensures) ∙ u .before .if1 .left) (u .turned .ensures) (told (s .pre .0) (s .pre .1) (search needs) (sym (l .lookup .ensures) ∙ c .enum-told2 .given .1))
 
 returns-4 : tie.Need-returns-4
 unfolding ownText
-returns-4 c = let l = c .before .before in let u = l .before in let d = u .before .before in let s = d .before in own-neither _ _ _ (s .pre .1) (sym (d .dropped .ensures) ∙ u .before .if1 .left) (u .turned .ensures) (told (s .pre .0) (s .pre .1) (search needs) (sym (l .lookup .ensures) ∙ c .enum-told3 .given .1))
+returns-4 c =
+    let l = c .before .before in
+    let u = l .before in
+    let d = u .before .before in
+    let s = d .before in
+    own-neither _ _ _ (s .pre .1) (sym (d .dropped .ensures) ∙ u .before .if1 .left) (u .turned .ensures) (told (s .pre .0) (s .pre .1) (search needs) (sym (l .lookup .ensures) ∙ c .enum-told3 .given .1))
 
 pub own-digit-spec : {M : Type 1} → statement M
 own-digit-spec =

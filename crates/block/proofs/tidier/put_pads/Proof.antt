@@ -17,7 +17,9 @@ loop-holds : tie.Need-loop-holds Inv-loop μ-loop
 loop-holds c = (padding-begins _ _ (omega (arith, c .pre .0, c .pre .1)), c .pre .0, c .pre .1)
 
 slice-write-out : tie.Need-slice-write-out Inv-loop μ-loop
-slice-write-out c = let h = c .before in omega (arith, padding-same (h .loop .inv .0), c .loop-test .taken, h .loop .inv .2)
+slice-write-out c =
+    let h = c .before in
+    omega (arith, padding-same (h .loop .inv .0), c .loop-test .taken, h .loop .inv .2)
 
 add-i : tie.Need-add-i Inv-loop μ-loop
 add-i c = search needs
@@ -26,7 +28,9 @@ loop-less : tie.Need-loop-less Inv-loop μ-loop
 loop-less c = search needs
 
 loop-again : tie.Need-loop-again Inv-loop μ-loop
-loop-again c = let h = c .before in (padding-more (h .loop .inv .0) (omega (arith, c .loop-test .taken, h .loop .inv .2)), omega (arith, c .loop-test .taken), h .loop .inv .2)
+loop-again c =
+    let h = c .before in
+    (padding-more (h .loop .inv .0) (omega (arith, c .loop-test .taken, h .loop .inv .2)), omega (arith, c .loop-test .taken), h .loop .inv .2)
 
 same-length : tie.Need-same-length Inv-loop μ-loop
 same-length c = padding-same (c .before .loop .inv .0)

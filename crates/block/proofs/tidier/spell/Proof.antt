@@ -30,7 +30,12 @@ enum-told : tie.Need-enum-told Inv-loop μ-loop
 enum-told c = search needs
 
 slice-write-out : tie.Need-slice-write-out Inv-loop μ-loop
-slice-write-out c = let l = c .before .before in let b = l .before in let h = b .before .before in let s = h .before .before .before in omega (arith, spelling-room (h .loop .inv) (b .before .loop-test .taken) (s .pre .1 .1) (digit-spelt _ _ (getD (s .args .text .now) (h .loop .i) 0) (s .pre .1 .0) (told (s .pre .0) (allowed-alphabet _ _ (s .pre .1 .0)) (omega (arith, b .shared-slice-known2 .given (h .loop .i))) (sym (l .lookup .ensures) ∙ c .enum-told .given .1))), spelling-same (h .loop .inv) (s .pre .1 .1))
+slice-write-out c =
+    let l = c .before .before in
+    let b = l .before in
+    let h = b .before .before in
+    let s = h .before .before .before in
+    omega (arith, spelling-room (h .loop .inv) (b .before .loop-test .taken) (s .pre .1 .1) (digit-spelt _ _ (getD (s .args .text .now) (h .loop .i) 0) (s .pre .1 .0) (told (s .pre .0) (allowed-alphabet _ _ (s .pre .1 .0)) (omega (arith, b .shared-slice-known2 .given (h .loop .i))) (sym (l .lookup .ensures) ∙ c .enum-told .given .1))), spelling-same (h .loop .inv) (s .pre .1 .1))
 
 add-n : tie.Need-add-n Inv-loop μ-loop
 add-n c = search needs
@@ -42,17 +47,29 @@ loop-less : tie.Need-loop-less Inv-loop μ-loop
 loop-less c = search needs
 
 loop-again : tie.Need-loop-again Inv-loop μ-loop
-loop-again c = let l = c .before .before in let b = l .before in let h = b .before .before in let s = h .before .before .before in spelling-puts (h .loop .inv) (b .before .loop-test .taken) (s .pre .1 .1) (digit-spelt _ _ (getD (s .args .text .now) (h .loop .i) 0) (s .pre .1 .0) (told (s .pre .0) (allowed-alphabet _ _ (s .pre .1 .0)) (omega (arith, b .shared-slice-known2 .given (h .loop .i))) (sym (l .lookup .ensures) ∙ c .enum-told .given .1)))
+loop-again c =
+    let l = c .before .before in
+    let b = l .before in
+    let h = b .before .before in
+    let s = h .before .before .before in
+    spelling-puts (h .loop .inv) (b .before .loop-test .taken) (s .pre .1 .1) (digit-spelt _ _ (getD (s .args .text .now) (h .loop .i) 0) (s .pre .1 .0) (told (s .pre .0) (allowed-alphabet _ _ (s .pre .1 .0)) (omega (arith, b .shared-slice-known2 .given (h .loop .i))) (sym (l .lookup .ensures) ∙ c .enum-told .given .1)))
 
 own-digit-requires : tie.Need-own-digit-requires Inv-loop μ-loop
-own-digit-requires c κs = let s = c .before .before .before .before .before .before .before in (s .pre .0, allowed-alphabet _ _ (s .pre .1 .0))
+own-digit-requires c κs =
+    let s = c .before .before .before .before .before .before .before in
+    (s .pre .0, allowed-alphabet _ _ (s .pre .1 .0))
 
 enum-known-c : tie.Need-enum-known-c Inv-loop μ-loop
 enum-known-c c = search needs
 
 slice-write-out-2 : tie.Need-slice-write-out-2 Inv-loop μ-loop
 unfolding ownText
-slice-write-out-2 c = let o = c .before .before .before in let b = o .before .before .before in let h = b .before .before in let s = h .before .before .before in omega (arith, spelling-room (h .loop .inv) (b .before .loop-test .taken) (s .pre .1 .1) (sym (o .own-digit .ensures) ∙ ap ownText (c .before .c .given .1)), spelling-same (h .loop .inv) (s .pre .1 .1))
+slice-write-out-2 c =
+    let o = c .before .before .before in
+    let b = o .before .before .before in
+    let h = b .before .before in
+    let s = h .before .before .before in
+    omega (arith, spelling-room (h .loop .inv) (b .before .loop-test .taken) (s .pre .1 .1) (sym (o .own-digit .ensures) ∙ ap ownText (c .before .c .given .1)), spelling-same (h .loop .inv) (s .pre .1 .1))
 
 add-n-2 : tie.Need-add-n-2 Inv-loop μ-loop
 add-n-2 c = search needs
@@ -65,7 +82,12 @@ loop-less-2 c = search needs
 
 loop-again-2 : tie.Need-loop-again-2 Inv-loop μ-loop
 unfolding ownText
-loop-again-2 c = let o = c .before .before .before in let b = o .before .before .before in let h = b .before .before in let s = h .before .before .before in spelling-puts (h .loop .inv) (b .before .loop-test .taken) (s .pre .1 .1) (sym (o .own-digit .ensures) ∙ ap ownText (c .before .c .given .1))
+loop-again-2 c =
+    let o = c .before .before .before in
+    let b = o .before .before .before in
+    let h = b .before .before in
+    let s = h .before .before .before in
+    spelling-puts (h .loop .inv) (b .before .loop-test .taken) (s .pre .1 .1) (sym (o .own-digit .ensures) ∙ ap ownText (c .before .c .given .1))
 
 enum-told-2 : tie.Need-enum-told-2 Inv-loop μ-loop
 enum-told-2 c = search needs
@@ -78,10 +100,17 @@ loop-less-3 c = search needs
 
 loop-again-3 : tie.Need-loop-again-3 Inv-loop μ-loop
 unfolding ownText
-loop-again-3 c = let o = c .before .before in let b = o .before .before .before in let h = b .before .before in let s = h .before .before .before in spelling-skips (h .loop .inv) (b .before .loop-test .taken) (sym (o .own-digit .ensures) ∙ ap ownText (c .enum-told2 .given .1))
+loop-again-3 c =
+    let o = c .before .before in
+    let b = o .before .before .before in
+    let h = b .before .before in
+    let s = h .before .before .before in
+    spelling-skips (h .loop .inv) (b .before .loop-test .taken) (sym (o .own-digit .ensures) ∙ ap ownText (c .enum-told2 .given .1))
 
 same-length : tie.Need-same-length Inv-loop μ-loop
-same-length c = let h = c .before in spelling-same (h .loop .inv) (h .before .before .before .pre .1 .1)
+same-length c =
+    let h = c .before in
+    spelling-same (h .loop .inv) (h .before .before .before .pre .1 .1)
 
 returns : tie.Need-returns Inv-loop μ-loop
 returns c = spelling-ends (c .before .loop .inv) (c .loop-test .left)

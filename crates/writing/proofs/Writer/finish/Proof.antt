@@ -6,11 +6,6 @@ use Rattle.writing.proofs.Promises.{finish-bad, finish-long, finish-don
 use borrow.Author.Needs.{needs}
 use Rattle.writing.proofs.Writer.finish.Statement.{statement}
 use Rattle.writing.proofs.Writer.finish.Tie as tie
-use Rattle.writing.proofs.Writer.finish.Reads as reads
-use Rattle.writing.proofs.Writer.finish.Lts as lts
-use Rattle.writing.proofs.closed.Reads as closed-reads
-use Rattle.writing.proofs.sound.Reads as sound-reads
-use Rattle.writing.proofs.unmoved.Reads as unmoved-reads
 
 sound-requires : tie.Need-sound-requires
 sound-requires c κs = search needs

@@ -10,13 +10,6 @@ use Rattle.writing.proofs.Promises.{step-bad, step-long, step-done, ste
 use borrow.Author.Needs.{needs}
 use Rattle.writing.proofs.Writer.step.Statement.{statement}
 use Rattle.writing.proofs.Writer.step.Tie as tie
-use Rattle.writing.proofs.Writer.step.Reads as reads
-use Rattle.writing.proofs.Writer.step.Lts as lts
-use Rattle.alphabet.proofs.table.digits.Reads as digits-reads
-use Rattle.writing.proofs.as_step.Reads as as-step-reads
-use Rattle.writing.proofs.run.Reads as run-reads
-use Rattle.writing.proofs.sound.Reads as sound-reads
-use Rattle.writing.proofs.unmoved.Reads as unmoved-reads
 
 sound-requires : tie.Need-sound-requires
 sound-requires c κs = search needs

@@ -1,5 +1,5 @@
 -- The finish of an open writer: the last digit and the pads if they all fit. Assumes nothing.
-use Prim.Native.Nat.{_-_, _*_, _/_, _<_}
+use Prim.Native.Nat.{_-_, _*_, _/_}
 use mathlib.Core.Path.{_≡_}
 use native.Mathlib.Nat.{zero-add}
 use native.Mathlib.Omega.{arith}
@@ -10,16 +10,8 @@ use Rattle.writing.proofs.LengthLaws.{source-small}
 use Rattle.writing.proofs.EndingLaws.{ending-length, needed}
 use Rattle.writing.proofs.Promises.{closed-short, closed-done}
 use borrow.Author.Needs.{needs}
-use Rattle.writing.proofs.closed.Statement.{statement}
-use Rattle.writing.proofs.closed.Tie as tie
-use Rattle.writing.proofs.closed.Reads as reads
-use Rattle.writing.proofs.closed.Lts as lts
-use Rattle.alphabet.proofs.sizes.bits.Reads as bits-reads
-use Rattle.alphabet.proofs.table.digits.Reads as digits-reads
-use Rattle.writing.proofs.gave.Reads as gave-reads
-use Rattle.writing.proofs.put_ending.Reads as put-ending-reads
-use Rattle.writing.proofs.unmoved.Reads as unmoved-reads
-use Rattle.writing.proofs.written_len.Reads as written-len-reads
+use Rattle.writing.proofs.stream.closed.Statement.{statement}
+use Rattle.writing.proofs.stream.closed.Tie as tie
 
 -- the needed count, once both sizes are known
 need : (c : tie.After-bits)

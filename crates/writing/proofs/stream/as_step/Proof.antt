@@ -3,11 +3,8 @@ use mathlib.Core.Path.{_∙_}
 use Rattle.writing.specs.declared.Why.the-variants as W
 use Rattle.writing.proofs.Promises.{as-ran}
 use borrow.Author.Needs.{needs}
-use Rattle.writing.proofs.as_step.Statement.{statement}
-use Rattle.writing.proofs.as_step.Tie as tie
-use Rattle.writing.proofs.as_step.Reads as reads
-use Rattle.writing.proofs.as_step.Lts as lts
-use Rattle.writing.proofs.gave.Reads as gave-reads
+use Rattle.writing.proofs.stream.as_step.Statement.{statement}
+use Rattle.writing.proofs.stream.as_step.Tie as tie
 
 add-taken : tie.Need-add-taken
 add-taken c = search needs

@@ -1,17 +1,13 @@
 -- The test of a state meets its definition. Assumes nothing.
-use mathlib.Core.Path.{_≡_}
-use Prim.Native.Nat.{_*_, _%_, _<_, _≤_}
+use Prim.Native.Nat.{_*_, _≤_}
 use native.Mathlib.Nat.{mod-lt}
 use native.Mathlib.Omega.{arith}
 use borrow.Author.Needs.{needs}
-use Rattle.alphabet.specs.Alphabet.{bits}
 use Rattle.alphabet.proofs.AlphabetLaws.{bits-low, bits-high}
 use Rattle.writing.proofs.LengthLaws.{source-small}
 use Rattle.writing.proofs.SoundLaws.{unknown, too-many, too-large, source-within, when-open, when-done, when-long}
-use Rattle.writing.proofs.sound.Statement.{statement}
-use Rattle.writing.proofs.sound.Tie as tie
-use Rattle.writing.proofs.sound.Reads as reads
-use Rattle.writing.proofs.sound.Lts as lts
+use Rattle.writing.proofs.stream.sound.Statement.{statement}
+use Rattle.writing.proofs.stream.sound.Tie as tie
 
 returns : tie.Need-returns
 returns c = unknown _ _ _ _ (c .if1 .taken)

@@ -4,22 +4,14 @@ use mathlib.Core.Path.{_∙_}
 use native.Mathlib.Omega.{arith}
 use lib.ListN.{length}
 use lib.Pow.{pow-pos}
+use Rattle.alphabet.specs.Written.{writtenLength}
 use Rattle.alphabet.proofs.AlphabetLaws.{bits-high}
 use Rattle.reading.specs.Limit.{limit}
-use Rattle.writing.specs.Front.{writtenLength}
 use Rattle.writing.proofs.LengthLaws.{none-within}
 use Rattle.writing.proofs.WholeLaws.{wrote-choice, wrote-long, source-within, wrote-short, wrote-all, source-sound, room-for-ending, whole-laid}
 use borrow.Author.Needs.{needs}
-use Rattle.writing.proofs.write.Statement.{statement}
-use Rattle.writing.proofs.write.Tie as tie
-use Rattle.writing.proofs.write.Reads as reads
-use Rattle.writing.proofs.write.Lts as lts
-use Rattle.alphabet.proofs.sizes.bits.Reads as bits-reads
-use Rattle.alphabet.proofs.table.digits.Reads as digits-reads
-use Rattle.writing.proofs.longest.Reads as longest-reads
-use Rattle.writing.proofs.put_ending.Reads as put-ending-reads
-use Rattle.writing.proofs.run.Reads as run-reads
-use Rattle.writing.proofs.written_len.Reads as written-len-reads
+use Rattle.writing.proofs.whole.write.Statement.{statement}
+use Rattle.writing.proofs.whole.write.Tie as tie
 
 returns : tie.Need-returns
 returns c = wrote-choice _ _ _ (c .if1 .taken)

@@ -1,0 +1,73 @@
+-- What the engine's states and causes are in the definitions of `reading`, for the streams above it: which states are ready, what a run from one
+-- is, and that a cause and 01's number of it determine each other. Assumes nothing.
+use Prim.Native.Nat.{ℕ, _%_, _≤_}
+use mathlib.Core.Path.{_≡_, refl}
+use mathlib.Core.Bool.{true}
+use mathlib.Core.List.{List}
+use borrow.Author.Tests.{lt-ltb, le-leb}
+use Rattle.alphabet.specs.Alphabet.{group, tail}
+use Rattle.reading.specs.Options.{allowed}
+use Rattle.reading.specs.Limit.{limit}
+use Rattle.reading.specs.Reader.{State, wants, heldBits}
+use Rattle.reading.specs.Sound.{Sound}
+use Rattle.reading.specs.Piece.{runPiece}
+use Rattle.engine.specs.declared.rule.Core.{Core}
+use Rattle.engine.specs.declared.rule.Cause.{Cause}
+use Rattle.engine.specs.declared.rule.Cause.the-variants as C
+use Rattle.engine.specs.Meaning.{stateOf, number}
+use Rattle.engine.specs.Ran.{causeOf, ranAs, small, ready, runAs, runBytes}
+
+-- ---- states
+
+pub wants-is : (a : ℕ) (s : State) → tail a (s .digits % group a) ≡ wants a s
+unfolding wants
+wants-is a s = refl
+
+module _ (a opts : ℕ) (k : Core) where
+  pub sound-ready : allowed a opts ≡ true → k .taken ≤ limit → Sound a (stateOf k) → ready a opts k ≡ true
+  unfolding ready small heldBits
+  sound-ready e l s = rw (e, le-leb _ _ l, le-leb _ _ (s .digits), le-leb _ _ (s .pads)) (lt-ltb _ _ (s .held))
+
+  module _ (e : ready a opts k ≡ true) (piece : List ℕ) (room : ℕ) where
+    pub ready-runs : runAs a opts k piece room ≡ ranAs (runPiece a opts piece (stateOf k) room)
+    unfolding runAs
+    ready-runs = rw e
+
+    pub ready-bytes : runBytes a opts k piece room ≡ runPiece a opts piece (stateOf k) room .wrote
+    unfolding runBytes
+    ready-bytes = rw e
+
+-- ---- causes
+
+pub long-number : number C.TooLong ≡ 2
+unfolding number
+long-number = refl
+
+pub foreign-number : number C.Foreign ≡ 4
+unfolding number
+foreign-number = refl
+
+pub pad-number : number C.PadPlace ≡ 5
+unfolding number
+pad-number = refl
+
+pub spare-number : number C.Spare ≡ 6
+unfolding number
+spare-number = refl
+
+pub after-number : number C.AfterPad ≡ 7
+unfolding number
+after-number = refl
+
+pub short-number : number C.Short ≡ 8
+unfolding number
+short-number = refl
+
+pub cause-number : (c : Cause) → causeOf (number c) ≡ c
+unfolding number causeOf
+cause-number C.TooLong = refl
+cause-number C.Foreign = refl
+cause-number C.PadPlace = refl
+cause-number C.Spare = refl
+cause-number C.AfterPad = refl
+cause-number C.Short = refl
