@@ -1,4 +1,5 @@
 // The answers of 01's table as types: where, how many, and why a text is refused.
+pub mod numbers; // numbers.rt: an answer as 01's three numbers
 
 // A place: an index into the text that was handed over, or the length of a text.
 pub struct Place(pub usize);

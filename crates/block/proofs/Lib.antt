@@ -1,5 +1,6 @@
 pub mod Answers
 pub mod RoomLaws
+pub mod RoomByJudge
 pub mod ReaderReturns
 pub mod SpellingLaws
 pub mod TidyText

@@ -1,6 +1,7 @@
 // The writer: the written form of a source, whole and as a stream by value. Here stand the types and the one loop that both share.
 mod stream; // stream.rt: start, step and finish by value
 mod whole; // whole.rt: the whole call
+pub mod measure; // measure.rt: what the whole writer answers, asked without a buffer
 
 use alphabet::regroup::Cut;
 use answer::Kind;
