@@ -107,7 +107,7 @@ module _ (a opts : ℕ) (t : List ℕ) {ran : Ran} (counts : ran ≡ freshAs a o
         digits-counted a opts t (x .choice) (x .zero) ∙ sym (ap (λ (r : Ran). r .core .digits) (counts ∙ fresh-runs a opts t (x .choice))) in
         rw (e, ← d) (sym (clean-length spells))
 
-    pub need-small : {w : ℕ} → w ≡ wanting (group a) (ran .core .digits) → ran .core .digits + w < 2 ^ 32
+    pub need-small : {w : ℕ} → w ≡ wanting (group a) (ran .core .digits) → ran .core .digits + w < 2 ^ 40
     need-small e = omega (arith, need-is e, tidy .fits, limit-small)
 
     module _ (o : List ℕ) {need : ℕ} (e : need ≡ length (clean a opts t)) where

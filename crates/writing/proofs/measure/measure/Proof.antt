@@ -5,7 +5,7 @@ use native.Mathlib.Omega.{arith}
 use lib.ListN.{length, length-replicate}
 use Rattle.alphabet.proofs.AlphabetLaws.{bits-high}
 use Rattle.reading.specs.Limit.{limit}
-use Rattle.writing.specs.Front.{writtenLength}
+use Rattle.alphabet.specs.Written.{writtenLength}
 use Rattle.writing.proofs.WholeLaws.{wrote-choice, wrote-long, source-within, wrote-short, wrote-all}
 use Rattle.writing.proofs.MeasureLaws.{blank, answer-by-room}
 use borrow.Author.Needs.{needs}
