@@ -34,3 +34,23 @@ told-bad n = refl
 pub told-finished : (n : Count) → told (O.Refused K.Finished n) ≡ record { answer = 10; position = 0; count = n .0 }
 unfolding told number position
 told-finished n = refl
+
+pub told-foreign : (p : Place) (n : Count) → told (O.Refused (K.Foreign p) n) ≡ record { answer = 4; position = p .0; count = n .0 }
+unfolding told number position
+told-foreign p n = refl
+
+pub told-pad : (p : Place) (n : Count) → told (O.Refused (K.PadPlace p) n) ≡ record { answer = 5; position = p .0; count = n .0 }
+unfolding told number position
+told-pad p n = refl
+
+pub told-spare : (p : Place) (n : Count) → told (O.Refused (K.Spare p) n) ≡ record { answer = 6; position = p .0; count = n .0 }
+unfolding told number position
+told-spare p n = refl
+
+pub told-after : (p : Place) (n : Count) → told (O.Refused (K.AfterPad p) n) ≡ record { answer = 7; position = p .0; count = n .0 }
+unfolding told number position
+told-after p n = refl
+
+pub told-short : (p : Place) (n : Count) → told (O.Refused (K.Short p) n) ≡ record { answer = 8; position = p .0; count = n .0 }
+unfolding told number position
+told-short p n = refl

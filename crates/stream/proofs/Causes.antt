@@ -2,11 +2,12 @@
 -- nothing.
 use Prim.Native.Nat.{ℕ}
 use mathlib.Core.Path.{_≡_, refl, ap, subst}
+use mathlib.Core.Logic.{_⊎_, inl, inr}
 use mathlib.Core.Bool.{false}
 use lib.Dec.{eqb}
 use Rattle.answer.specs.declared.Outcome.the-variants as O
 use Rattle.reading.specs.Reader.{State}
-use Rattle.reading.proofs.Refusals.{Blame, foreign, misplaced, spare, late}
+use Rattle.reading.proofs.Refusals.{Blame, foreign, misplaced, spare, late, Ended, whole, short}
 use Rattle.engine.specs.declared.rule.Cause.{Cause}
 use Rattle.engine.specs.declared.rule.Cause.the-variants as C
 use Rattle.engine.specs.Meaning.{number}
@@ -68,3 +69,9 @@ pub cause-outcome : {k : ℕ} → IsCause k → (i n : ℕ) → outcomeOf k i n 
 cause-outcome x i n =
     subst (λ (k : ℕ). outcomeOf k i n ≡ O.Refused (kindBy (causeOf k) (place i)) (count n)) (x .is)
     (rw (cause-number (x .cause)) (refused-outcome (x .cause) i n))
+
+-- the end is accepted, or is refused with a cause
+pub ended-cause : {a opts : ℕ} {s : State} {k : ℕ} → Ended a opts s k → (k ≡ 0) ⊎ IsCause k
+ended-cause whole = inl refl
+ended-cause (spare x n) = inr (record { cause = C.Spare; is = spare-number })
+ended-cause short = inr (record { cause = C.Short; is = short-number })

@@ -23,19 +23,20 @@ use Rattle.engine.specs.declared.rule.End.the-variants as E
 use Rattle.engine.specs.declared.piece.Ran.{Ran}
 use Rattle.engine.specs.Meaning.{stateOf, number, endOf}
 use Rattle.engine.specs.Ran.{filled, coreOf, whyAs, ranAs, ready, runAs, runBytes}
+use Rattle.engine.proofs.FromFresh.{all-as, refused-as, full-as}
 use Rattle.engine.proofs.States.{cause-number, ready-runs, ready-bytes}
 use Rattle.stream.specs.declared.reader.Status.the-variants as U
 use Rattle.stream.specs.declared.reader.Reader.{Reader}
 use Rattle.stream.specs.declared.reader.Stepped.{Stepped}
 use Rattle.stream.specs.declared.reader.Start.the-variants as B
-use Rattle.stream.specs.Stream.{live, startOf}
-use Rattle.stream.specs.Given.{given, readable}
-use Rattle.stream.specs.Calls.{Called, unmoved, whyStatus, whyAnswer, ran, stepOf, endStatus, closes}
-use Rattle.stream.specs.Promises.{Sticks}
+use Rattle.streaming.specs.Stream.{live, startOf}
+use Rattle.streaming.specs.Given.{given, readable}
+use Rattle.streaming.specs.Calls.{Called, unmoved, whyStatus, whyAnswer, ran, stepOf, endStatus, closes}
+use Rattle.streaming.specs.Promises.{Sticks}
 use Rattle.stream.specs.Stepped.{statusOf, statusAs, streamOf, place, count, kindBy, kindOf, outcomeOf, returned, stepped, written, finished, startAs, begun}
 use Rattle.stream.specs.Packed.{reader, packed, untold, byWhy, asStep, asEnd}
-use Rattle.stream.proofs.Order.{nine-sticks, ten-sticks, refusal-sticks, live-step, live-finish}
-use Rattle.stream.proofs.GivenLaws.{given-says}
+use Rattle.streaming.proofs.Order.{nine-sticks, ten-sticks, refusal-sticks, live-step, live-finish}
+use Rattle.streaming.proofs.GivenLaws.{given-says}
 use Rattle.stream.proofs.Tests.{given-ready}
 use Rattle.stream.proofs.Causes.{IsCause, long-cause, blame-cause, some-number, status-back, refused-outcome, cause-outcome}
 
@@ -97,13 +98,13 @@ module _ (a opts : ℕ) (s : State) (took n : ℕ) where
   why-returned : (w : P.Why) → ((k : ℕ) → w ≡ P.refused k → IsCause k)
       → byWhy a opts (coreOf s) took n (whyAs w)
       ≡ packed (reader a opts (coreOf s) (statusAs (whyStatus w))) (outcomeOf (whyAnswer w) (s .taken) n) took
-  unfolding byWhy whyAs whyStatus whyAnswer statusAs outcomeOf kindOf
-  why-returned P.all f = refl
-  why-returned (P.refused k) f = rw (cause-outcome (f k refl) (s .taken) n)
-  why-returned P.full f = refl
+  unfolding byWhy whyStatus whyAnswer statusAs outcomeOf kindOf
+  why-returned P.all f = rw all-as
+  why-returned (P.refused k) f = rw (refused-as k, cause-outcome (f k refl) (s .taken) n)
+  why-returned P.full f = rw full-as
 
 -- what a run over a piece refuses with is a cause
-ran-cause : (a opts : ℕ) (s : State) (piece : List ℕ) (room : ℕ) (r : P.Ran) → PieceFeeds a opts piece s room [] r → (k : ℕ) → r .why ≡ P.refused k → IsCause k
+pub ran-cause : (a opts : ℕ) (s : State) (piece : List ℕ) (room : ℕ) (r : P.Ran) → PieceFeeds a opts piece s room [] r → (k : ℕ) → r .why ≡ P.refused k → IsCause k
 ran-cause a opts s piece room r f k e = go (eqb k 2) refl
   where
     go : (x : Bool) → eqb k 2 ≡ x → IsCause k

@@ -13,9 +13,9 @@ use Rattle.engine.specs.Ran.{ready}
 use Rattle.engine.proofs.ByCases.{drops-13, drops-32}
 use Rattle.engine.proofs.AtLimit.{is-ready}
 use Rattle.engine.proofs.States.{sound-ready}
-use Rattle.stream.specs.Stream.{Status}
-use Rattle.stream.specs.Given.{countsFit, padsFit, readable, statusFits}
-use Rattle.stream.proofs.GivenLaws.{Readable, readable-says, readable-is}
+use Rattle.streaming.specs.Stream.{Status}
+use Rattle.streaming.specs.Given.{countsFit, padsFit, readable, statusFits}
+use Rattle.streaming.proofs.GivenLaws.{Readable, readable-says, readable-is}
 
 -- what is left of t after d is p exactly when t is d and p
 pub rest-is : (t d p : ℕ) → d ≤ t → eqb (t - d) p ≡ eqb t (d + p)

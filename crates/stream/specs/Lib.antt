@@ -1,9 +1,4 @@
-pub mod Stream
-pub mod Given
-pub mod Calls
-pub mod Reached
-pub mod Driving
-pub mod Promises
 pub mod Stepped
 pub mod Packed
-pub mod Known
+pub mod Made
+pub mod Carried

@@ -21,9 +21,9 @@ use Rattle.stream.specs.declared.reader.Reader.{Reader}
 use Rattle.stream.specs.declared.reader.Stepped.{Stepped}
 use Rattle.stream.specs.declared.reader.Start.{Start}
 use Rattle.stream.specs.declared.reader.Start.the-variants as B
-use Rattle.stream.specs.Stream as S
-use Rattle.stream.specs.Stream.{Stream, startOf}
-use Rattle.stream.specs.Calls.{Called, stepOf, finishOf}
+use Rattle.streaming.specs.Stream as S
+use Rattle.streaming.specs.Stream.{Stream, startOf}
+use Rattle.streaming.specs.Calls.{Called, stepOf, finishOf}
 
 -- ---- the state
 

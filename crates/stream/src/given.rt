@@ -12,7 +12,7 @@ use reading::limit;
 ghost use mathlib.Core.Path.{_≡_};
 ghost use Rattle.reading.specs.Reader as Reader;
 ghost use Rattle.engine.specs.Meaning.{stateOf, number};
-ghost use Rattle.stream.specs.Given as spec;
+ghost use Rattle.streaming.specs.Given as spec;
 ghost use Rattle.stream.specs.Stepped.{statusOf};
 
 // Digits and pads are among the bytes taken, and are all of them where none is dropped.

@@ -99,7 +99,7 @@ fn as_step(alphabet: usize, options: usize, r: Ran) -> Stepped
                 alphabet,
                 options,
                 core,
-                status: Status::Shut(cause),
+                status: Status::Shut(cause), // so that every later call refuses again
             },
             told: Told {
                 outcome: Outcome::Refused(kind_by(cause, place), count),
@@ -181,7 +181,7 @@ impl Reader {
                 Status::Done => unmoved(self, Kind::Finished),
             };
         }
-        unmoved(self, Kind::BadState)
+        unmoved(self, Kind::BadState) // before 10
     }
 
     pub fn finish(self) -> Stepped

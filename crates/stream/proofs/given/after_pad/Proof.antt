@@ -1,6 +1,6 @@
 -- `given::after_pad`: the limit, and then the pads. Assumes nothing.
 use borrow.Author.Tests.{lt-ltb, le-ltb}
-use Rattle.stream.specs.Given.{refusable}
+use Rattle.streaming.specs.Given.{refusable}
 use borrow.Author.Needs.{needs}
 use Rattle.stream.proofs.given.after_pad.Statement.{statement}
 use Rattle.stream.proofs.given.after_pad.Tie as tie

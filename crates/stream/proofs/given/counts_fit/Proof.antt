@@ -1,6 +1,6 @@
 -- `given::counts_fit`: at each return the tests that led there decide. Assumes nothing.
 use borrow.Author.Tests.{le-leb, lt-leb}
-use Rattle.stream.specs.Given.{countsFit}
+use Rattle.streaming.specs.Given.{countsFit}
 use Rattle.stream.proofs.Tests.{rest-is, rest-none, rest-less, rest-more, lines-by, blank-by}
 use borrow.Author.Needs.{needs}
 use Rattle.stream.proofs.given.counts_fit.Statement.{statement}

@@ -1,6 +1,6 @@
 -- `given::given`: the state and then the status. Assumes nothing.
 use mathlib.Core.Path.{sym, _∙_}
-use Rattle.stream.specs.Given.{given}
+use Rattle.streaming.specs.Given.{given}
 use borrow.Author.Needs.{needs}
 use Rattle.stream.proofs.given.given.Statement.{statement}
 use Rattle.stream.proofs.given.given.Tie as tie

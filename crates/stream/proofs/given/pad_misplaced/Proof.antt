@@ -2,7 +2,7 @@
 use mathlib.Core.Path.{sym, _∙_}
 use borrow.Author.Tests.{lt-ltb, le-ltb, eq-eqb, ne-eqb}
 use Rattle.engine.proofs.States.{wants-is}
-use Rattle.stream.specs.Given.{refusable}
+use Rattle.streaming.specs.Given.{refusable}
 use borrow.Author.Needs.{needs}
 use Rattle.stream.proofs.given.pad_misplaced.Statement.{statement}
 use Rattle.stream.proofs.given.pad_misplaced.Tie as tie

@@ -1,6 +1,6 @@
 -- `given::refusable`: by the cause. Assumes nothing.
 use Rattle.engine.proofs.States.{long-number, foreign-number, pad-number, spare-number, after-number, short-number}
-use Rattle.stream.specs.Given.{refusable}
+use Rattle.streaming.specs.Given.{refusable}
 use borrow.Author.Needs.{needs}
 use Rattle.stream.proofs.given.refusable.Statement.{statement}
 use Rattle.stream.proofs.given.refusable.Tie as tie

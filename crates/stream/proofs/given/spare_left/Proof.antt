@@ -2,7 +2,7 @@
 use mathlib.Core.Path.{sym, _∙_}
 use borrow.Author.Tests.{eq-eqb, ne-eqb}
 use Rattle.engine.proofs.States.{wants-is}
-use Rattle.stream.specs.Given.{spareLeft}
+use Rattle.streaming.specs.Given.{spareLeft}
 use Rattle.stream.proofs.Tests.{some-is, none-is}
 use borrow.Author.Needs.{needs}
 use Rattle.stream.proofs.given.spare_left.Statement.{statement}

@@ -1,7 +1,7 @@
 -- `given::spare_refused`: at each return the tests that led there decide. Assumes nothing.
 use mathlib.Core.Path.{sym, _∙_}
 use borrow.Author.Tests.{lt-ltb, le-ltb}
-use Rattle.stream.specs.Given.{refusable}
+use Rattle.streaming.specs.Given.{refusable}
 use borrow.Author.Needs.{needs}
 use Rattle.stream.proofs.given.spare_refused.Statement.{statement}
 use Rattle.stream.proofs.given.spare_refused.Tie as tie

@@ -1,5 +1,5 @@
 -- `given::status_fits`: by the status. Assumes nothing.
-use Rattle.stream.specs.Given.{statusFits}
+use Rattle.streaming.specs.Given.{statusFits}
 use Rattle.stream.specs.Stepped.{statusOf}
 use borrow.Author.Needs.{needs}
 use Rattle.stream.proofs.given.status_fits.Statement.{statement}

@@ -1,0 +1,1 @@
+// The law of a lent state, in proofs/: it has no code of its own.
