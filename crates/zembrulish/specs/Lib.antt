@@ -1,1 +1,2 @@
 pub mod FirstLine
+pub mod Turns

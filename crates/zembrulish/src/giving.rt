@@ -5,12 +5,15 @@ use crate::line::LINE;
 use crate::output::least;
 use crate::output::put;
 use crate::said;
-use answer::Kind;
-use answer::Outcome;
+use crate::said::goes_on;
+use answer::numbers;
 use writing::Start;
 use writing::Stepped;
 use writing::Writer;
+ghost use mathlib.Core.Path.{_≡_};
 ghost use Prim.Native.Nat.{_≤_};
+ghost use lib.ListN.{length};
+ghost use Rattle.zembrulish.specs.Turns.{writeOn};
 
 // A writer, and the part of the buffer that it has not taken yet.
 struct Going {
@@ -27,54 +30,50 @@ enum Turn {
 // More turns than a source within the limit takes, a byte a turn and a read before each.
 const TURNS: u64 = 4294967296;
 
-// The step's digits are written, and what was not taken is offered again; answer 2 ends it.
-fn after(stepped: Stepped, at: usize, end: usize, out: &[u8]) -> Turn
+// After a step: what was not taken is offered again, or answer 2 ends it.
+fn after(stepped: Stepped, at: usize, end: usize) -> Turn
     requires { ⌜ at ≤ end ⌝ }
+    ensures { λ r. ⌜ r ≡ writeOn stepped at end ⌝ }
 {
     let writer = stepped.state;
     let told = stepped.told;
     let outcome = told.outcome;
     let took = told.taken;
-    let next = least(took.0, end - at);
-    match outcome {
-        Outcome::Accepted(_, count) => {
-            if put(count, out) {
-                return Turn::On(Going {
-                    writer,
-                    at: at + next,
-                    end,
-                });
-            }
-            Turn::Ended
-        }
-        Outcome::Refused(kind, count) => {
-            if put(count, out) {
-                return match kind {
-                    Kind::NoRoom(_) => Turn::On(Going {
-                        writer,
-                        at: at + next,
-                        end,
-                    }),
-                    _ => Turn::Ended,
-                };
-            }
-            Turn::Ended
-        }
+    if goes_on(outcome) {
+        let next = at + least(took.0, end - at);
+        return Turn::On(Going {
+            writer,
+            at: next,
+            end,
+        });
     }
+    Turn::Ended
+}
+
+// A step over what is left in the buffer, whose digits are written.
+fn step(going: Going, end: usize, buf: &[u8], out: &mut [u8]) -> Turn
+    requires { ⌜ (going .at ≤ end) × (end ≤ length (now buf)) ⌝ }
+{
+    let writer = going.writer;
+    let at = going.at;
+    let stepped = writer.step(&buf[at..end], out);
+    let told = stepped.told;
+    let outcome = told.outcome;
+    let n = least(numbers::count(outcome), out.len());
+    if put(n, out) {
+        return after(stepped, at, end);
+    }
+    Turn::Ended
 }
 
 // The end of the source: the last digit and the pads.
 fn close(writer: Writer, out: &mut [u8]) -> Turn {
-    let stepped = writer.finish(out);
-    let told = stepped.told;
+    let finished = writer.finish(out);
+    let told = finished.told;
     let outcome = told.outcome;
-    match outcome {
-        Outcome::Accepted(_, count) => {
-            put(count, out);
-            Turn::Ended
-        }
-        Outcome::Refused(_, _) => Turn::Ended,
-    }
+    let n = least(numbers::count(outcome), out.len());
+    put(n, out);
+    Turn::Ended
 }
 
 fn one_turn(going: Going, buf: &mut [u8], out: &mut [u8]) -> Turn {
@@ -82,8 +81,7 @@ fn one_turn(going: Going, buf: &mut [u8], out: &mut [u8]) -> Turn {
     let at = going.at;
     let end = least(going.end, buf.len());
     if at < end {
-        let stepped = writer.step(&buf[at..end], out);
-        return after(stepped, at, end, out);
+        return step(going, end, buf, out);
     }
     match input::again(buf) {
         Got::Bytes(n) => {

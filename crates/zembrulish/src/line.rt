@@ -84,7 +84,11 @@ pub fn parse(input: &[u8]) -> First
         return First::Other;
     }
     if is_shaped(input) {
-        return ask(input[0], number(input[2]), 10 * number(input[4]) + number(input[5]));
+        return ask(
+            input[0],
+            number(input[2]),
+            10 * number(input[4]) + number(input[5]),
+        );
     }
     First::Other
 }

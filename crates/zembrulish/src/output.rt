@@ -1,16 +1,18 @@
 // Standard output, written from a lent buffer.
-use answer::Count;
 use libc::STDOUT_FILENO;
-ghost use Prim.Native.Nat.{_≤_};
+ghost use mathlib.Core.Path.{_≡_};
+ghost use Prim.Native.Nat.{_≤_, min};
+ghost use lib.ListN.{length};
 
 pub(crate) fn least(x: usize, y: usize) -> usize
-    ensures { λ r. ⌜ (r ≤ x) × (r ≤ y) ⌝ }
+    ensures { λ r. ⌜ (r ≡ min x y) × (r ≤ x) × (r ≤ y) ⌝ }
 {
     if x <= y { x } else { y }
 }
 
-// The bytes that a call gave, all written or not.
-pub(crate) fn put(count: Count, out: &[u8]) -> bool {
-    let n = least(count.0, out.len());
+// The first n bytes of the buffer, all written or not.
+pub(crate) fn put(n: usize, out: &[u8]) -> bool
+    requires { ⌜ n ≤ length (now out) ⌝ }
+{
     io::write_all(STDOUT_FILENO, &out[..n])
 }
