@@ -6,8 +6,7 @@ ghost use mathlib.Core.Path.{_≡_};
 ghost use Rattle.stream.specs.Stepped.{stepped, written, finished};
 
 pub fn step_in(state: &mut Reader, piece: &[u8], out: &mut [u8]) -> Told
-    ensures { λ r. ⌜ (r ≡ stepped (now (state .entry)) (now (piece .entry)) (now (out .entry)) .told)
-        × (now (state .exit) ≡ stepped (now (state .entry)) (now (piece .entry)) (now (out .entry)) .state)
+    ensures { λ r. ⌜ (record { state = now (state .exit); told = r } ≡ stepped (now (state .entry)) (now (piece .entry)) (now (out .entry)))
         × (now (out .exit) ≡ written (now (state .entry)) (now (piece .entry)) (now (out .entry))) ⌝ }
 {
     let was = *state;
@@ -17,7 +16,7 @@ pub fn step_in(state: &mut Reader, piece: &[u8], out: &mut [u8]) -> Told
 }
 
 pub fn finish_in(state: &mut Reader) -> Told
-    ensures { λ r. ⌜ (r ≡ finished (now (state .entry)) .told) × (now (state .exit) ≡ finished (now (state .entry)) .state) ⌝ }
+    ensures { λ r. ⌜ record { state = now (state .exit); told = r } ≡ finished (now (state .entry)) ⌝ }
 {
     let was = *state;
     let made = was.finish();
