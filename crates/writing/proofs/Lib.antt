@@ -17,3 +17,4 @@ pub mod Answers
 pub mod Determined
 pub mod Steps
 pub mod SharedStart
+pub mod StepShort
