@@ -36,11 +36,11 @@ pub(crate) fn example() {
 fn lent(start: Reader) {
     let mut one = [0u8; 1];
     let mut two = [0u8; 2];
-    let first = lent::read_step_through(start, b"Zm9v", &mut one);
+    let first = lent::reader::step_through(start, b"Zm9v", &mut one);
     let reader = say(b"Zm9v with room 1, lent", first, &one);
-    let rest = lent::read_step_through(reader, b"9v", &mut two);
+    let rest = lent::reader::step_through(reader, b"9v", &mut two);
     let last = say(b"9v with room 2, lent", rest, &two);
-    let end = last.finish();
+    let end = lent::reader::finish_through(last);
     say(b"finish", end, b"");
 }
 

@@ -18,3 +18,4 @@ pub mod Determined
 pub mod Steps
 pub mod SharedStart
 pub mod MeasureLaws
+pub mod StepShort

@@ -1,0 +1,4 @@
+pub mod Readers
+pub mod Writers
+pub mod LentDriving
+pub mod Determined
