@@ -5,3 +5,4 @@ pub mod Loops
 pub mod AtLimit
 pub mod FromFresh
 pub mod States
+pub mod Determined

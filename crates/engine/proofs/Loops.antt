@@ -34,7 +34,7 @@ pub record Loop (a opts : ℕ) (piece : List ℕ) (start : Core) (room : ℕ) (k
 pub loop-begins : (a opts : ℕ) (piece : List ℕ) (k : Core) (room : ℕ) → Ready a k (length piece) → Loop a opts piece k room k 0 0 []
 loop-begins a opts piece k room r = record { going = begins a opts piece (stateOf k) room; sound = r .sound; place = sym (add-zero (k .taken)) }
 
-cause-back : (c : Cause) → causeOf (number c) ≡ c
+pub cause-back : (c : Cause) → causeOf (number c) ≡ c
 unfolding causeOf number
 cause-back C.TooLong = refl
 cause-back C.Foreign = refl

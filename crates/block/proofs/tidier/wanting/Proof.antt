@@ -1,8 +1,8 @@
 -- `tidier::wanting`: the group is not 0. Assumes nothing.
 use native.Mathlib.Nat.{mod-lt}
 use native.Mathlib.Omega.{arith}
-use Rattle.alphabet.specs.Written.{wanting}
 use Rattle.alphabet.proofs.AlphabetLaws.{group-pos}
+use Rattle.alphabet.proofs.WrittenLaws.{wanting-counted}
 use borrow.Author.Needs.{needs}
 use Rattle.block.proofs.tidier.wanting.Statement.{statement}
 use Rattle.block.proofs.tidier.wanting.Tie as tie
@@ -20,8 +20,7 @@ rem-result-2 : tie.Need-rem-result-2
 rem-result-2 c = rw (c .group .ensures) (group-pos _ (c .before .pre))
 
 returns : tie.Need-returns
-unfolding wanting
-returns c = rw (c .group .ensures)
+returns c = rw (c .group .ensures) (wanting-counted _ (c .before .args .n))
 
 pub wanting-spec : {M : Type 1} → statement M
 wanting-spec = tie.close (tie.spec group-requires rem-result sub-result rem-result-2 returns)
