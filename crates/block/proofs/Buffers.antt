@@ -5,7 +5,7 @@ use mathlib.Core.List.{List, _++_}
 use native.Mathlib.Omega.{arith}
 use lib.ListN.{length, take, drop, set, length-append, length-set, length-drop, take-append-drop}
 use lib.Seq.{length-take-le, take-append-seam, drop-append-add, drop-drop, set-append-left}
-use Rattle.engine.specs.Ran.{filled}
+use Rattle.reading.specs.Buffer.{filled}
 
 pub filled-front : (w o : List ℕ) → take (length w) (filled w o) ≡ w
 filled-front w o = take-append-seam w (drop (length w) o)

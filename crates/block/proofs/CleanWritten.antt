@@ -9,7 +9,7 @@ use lib.ListN.{length, take, getD, set, replicate, length-append, length-replica
 use Rattle.alphabet.specs.Alphabet.{group, digit, value, pad}
 use Rattle.alphabet.specs.Written.{wanting}
 use Rattle.reading.specs.Cleaning.{clean}
-use Rattle.engine.specs.Ran.{filled}
+use Rattle.reading.specs.Buffer.{filled}
 use Rattle.block.specs.Spelling.{spelt, lastOf, lastClear, spelledOut, Clearable, Spelled}
 use Rattle.block.proofs.Buffers.{filled-front, filled-length, refilled}
 

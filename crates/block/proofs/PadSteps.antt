@@ -6,7 +6,7 @@ use native.Mathlib.Omega.{arith}
 use lib.ListN.{length, take, drop, set, replicate, length-append, length-replicate, length-drop, take-append-drop, replicate-append-replicate}
 use lib.Seq.{length-take-le}
 use Rattle.alphabet.specs.Alphabet.{pad}
-use Rattle.engine.specs.Ran.{filled}
+use Rattle.reading.specs.Buffer.{filled}
 use Rattle.engine.proofs.Loops.{stored}
 
 -- what stands before the place i

@@ -12,7 +12,8 @@ use Rattle.reading.specs.Options.{allowed}
 use Rattle.reading.specs.Reader.{fresh}
 use Rattle.engine.specs.declared.rule.Core.{Core}
 use Rattle.engine.specs.declared.piece.Ran.{Ran}
-use Rattle.engine.specs.Ran.{filled, coreOf, runAs, runBytes, freshAs, freshBytes}
+use Rattle.reading.specs.Buffer.{filled}
+use Rattle.engine.specs.Ran.{coreOf, runAs, runBytes, freshAs, freshBytes}
 use Rattle.block.specs.Calls.{ReadAs, InPlaceAs}
 use Rattle.block.specs.Answered.{answered}
 use Rattle.block.specs.Room.{neededOf}

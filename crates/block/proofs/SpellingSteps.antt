@@ -16,7 +16,7 @@ use Rattle.alphabet.proofs.TableLaws.{symbol-digit, digit-symbol, pad-symbol, n
 use Rattle.reading.specs.Options.{allowed}
 use Rattle.reading.specs.Cleaning.{dropped, turned}
 use Rattle.reading.proofs.OptionLaws.{allowed-alphabet}
-use Rattle.engine.specs.Ran.{filled}
+use Rattle.reading.specs.Buffer.{filled}
 use Rattle.engine.proofs.Loops.{stored}
 use Rattle.block.specs.Spelling.{spelt, lastOf, lastClear, Clearable}
 use Rattle.block.proofs.Buffers.{own-front, set-front}

@@ -25,7 +25,8 @@ use Rattle.reading.proofs.OptionLaws.{allowed-alphabet}
 use Rattle.reading.proofs.LimitLaws.{limit-small}
 use Rattle.reading.proofs.Tidied.{tidied-again}
 use Rattle.engine.specs.declared.piece.Ran.{Ran}
-use Rattle.engine.specs.Ran.{filled, freshAs}
+use Rattle.reading.specs.Buffer.{filled}
+use Rattle.engine.specs.Ran.{freshAs}
 use Rattle.engine.proofs.FromFresh.{fresh-runs}
 use Rattle.block.specs.Whole.{choice, verdict, noRoom, judgeOf, tidyOf, tidyText}
 use Rattle.block.specs.Answered.{answered}

@@ -11,7 +11,7 @@ use Rattle.reading.specs.Options.{allowed}
 use Rattle.reading.specs.Reader.{judged}
 use Rattle.reading.specs.Promises.{Promised}
 use Rattle.reading.specs.Tidying.{Tidied}
-use Rattle.engine.specs.Ran.{filled}
+use Rattle.reading.specs.Buffer.{filled}
 use Rattle.block.specs.Whole.{judgeOf, readOf, readBytes, inPlaceBytes, tidyOf, tidyText}
 
 -- the judge's answer r to the text t

@@ -15,7 +15,7 @@ ghost use Rattle.alphabet.specs.Table.{entries};
 ghost use Rattle.alphabet.specs.Written as Written;
 ghost use Rattle.reading.specs.Options as Options;
 ghost use Rattle.reading.specs.Cleaning as Cleaning;
-ghost use Rattle.engine.specs.Ran.{filled};
+ghost use Rattle.reading.specs.Buffer.{filled};
 ghost use Rattle.block.specs.Spelling as Spelling;
 ghost use Rattle.block.specs.Spelling.{spelt, ownText, Clearable, Spelled};
 ghost use Rattle.block.specs.Calls.{TidyAs};

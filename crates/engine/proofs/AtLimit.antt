@@ -25,7 +25,8 @@ use Rattle.reading.proofs.PieceLaws.{run-feeds}
 use Rattle.engine.specs.declared.rule.Core.{Core}
 use Rattle.engine.specs.declared.piece.Ran.{Ran}
 use Rattle.engine.specs.Meaning.{stateOf}
-use Rattle.engine.specs.Ran.{filled, causeOf, whyAs, whyAtLimit, ranAs, atLimit, Ready, ready, small, unfit, runAs, runBytes, freshAs, freshBytes, coreOf}
+use Rattle.reading.specs.Buffer.{filled}
+use Rattle.engine.specs.Ran.{causeOf, whyAs, whyAtLimit, ranAs, atLimit, Ready, ready, small, unfit, runAs, runBytes, freshAs, freshBytes, coreOf}
 
 why-at-limit : (w : P.Why) → whyAtLimit (whyAs w) ≡ whyAs (P.whyAtLimit w)
 unfolding whyAtLimit whyAs causeOf P.whyAtLimit

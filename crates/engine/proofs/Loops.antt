@@ -24,7 +24,8 @@ use Rattle.engine.specs.declared.piece.Why.{Why}
 use Rattle.engine.specs.declared.piece.Why.the-variants as W
 use Rattle.engine.specs.declared.piece.Ran.{Ran}
 use Rattle.engine.specs.Meaning.{stateOf, stepOf, number, Fit}
-use Rattle.engine.specs.Ran.{filled, causeOf, whyAs, ranAs, Ready}
+use Rattle.reading.specs.Buffer.{filled}
+use Rattle.engine.specs.Ran.{causeOf, whyAs, ranAs, Ready}
 
 pub record Loop (a opts : ℕ) (piece : List ℕ) (start : Core) (room : ℕ) (k : Core) (i n : ℕ) (wrote : List ℕ) : Type 0 where
   pub going : Going a opts piece (stateOf start) room (stateOf k) i n wrote

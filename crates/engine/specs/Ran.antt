@@ -20,10 +20,6 @@ use Rattle.engine.specs.declared.piece.Why.the-variants as W
 use Rattle.engine.specs.declared.piece.Ran.{Ran}
 use Rattle.engine.specs.Meaning.{stateOf}
 
--- the bytes at the front of a buffer, every later byte as before
-abbrev pub filled : List ℕ → List ℕ → List ℕ
-filled w o = w ++ drop (length w) o
-
 abbrev pub coreOf : State → Core
 coreOf s = record { digits = s .digits; held = s .held; pads = s .pads; taken = s .taken }
 

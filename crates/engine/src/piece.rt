@@ -18,7 +18,8 @@ ghost use Rattle.reading.specs.Limit as Limit;
 ghost use Rattle.reading.specs.Piece as Piece;
 ghost use Rattle.engine.specs.Meaning.{stateOf};
 ghost use Rattle.engine.specs.Ran as Spec;
-ghost use Rattle.engine.specs.Ran.{Ready, ranAs, filled};
+ghost use Rattle.reading.specs.Buffer.{filled};
+ghost use Rattle.engine.specs.Ran.{Ready, ranAs};
 
 // Why a run over a piece stopped. Unfit: the choice or the state is none that reading starts from, and nothing was done.
 pub enum Why {

@@ -4,9 +4,9 @@ use Prim.Native.Nat.{ℕ}
 use mathlib.Core.Path.{_≡_}
 use mathlib.Core.List.{List}
 use lib.ListN.{length}
-use Rattle.engine.specs.Ran.{filled}
+use Rattle.reading.specs.Buffer.{filled}
 use Rattle.block.specs.Whole.{readOf, readBytes}
-use Rattle.writing.specs.Whole.{over, writeOf}
+use Rattle.writing.specs.Whole.{writeOf}
 
 -- the reader's answer r to the text t, and its buffer: o at entry, o′ at exit
 pub record ReadCall (a opts : ℕ) (t o : List ℕ) (r : ℕ) (o′ : List ℕ) : Type 0 where
@@ -16,4 +16,4 @@ pub record ReadCall (a opts : ℕ) (t o : List ℕ) (r : ℕ) (o′ : List ℕ) 
 -- the writer's answer r to the source, and its buffer
 pub record WriteCall (a : ℕ) (src o : List ℕ) (r : ℕ) (o′ : List ℕ) : Type 0 where
   pub answer : r ≡ writeOf a src (length o) .told .answer
-  pub buffer : o′ ≡ over (writeOf a src (length o) .text) o
+  pub buffer : o′ ≡ filled (writeOf a src (length o) .text) o

@@ -8,3 +8,4 @@ pub mod Promises
 pub mod Tidying
 pub mod Known
 pub mod Sound
+pub mod Buffer

@@ -22,7 +22,8 @@ use Rattle.engine.specs.declared.rule.End.{End}
 use Rattle.engine.specs.declared.rule.End.the-variants as E
 use Rattle.engine.specs.declared.piece.Ran.{Ran}
 use Rattle.engine.specs.Meaning.{stateOf, number, endOf}
-use Rattle.engine.specs.Ran.{filled, coreOf, whyAs, ranAs, ready, runAs, runBytes}
+use Rattle.reading.specs.Buffer.{filled}
+use Rattle.engine.specs.Ran.{coreOf, whyAs, ranAs, ready, runAs, runBytes}
 use Rattle.engine.proofs.FromFresh.{all-as, refused-as, full-as}
 use Rattle.engine.proofs.States.{cause-number, ready-runs, ready-bytes}
 use Rattle.stream.specs.declared.reader.Status.the-variants as U

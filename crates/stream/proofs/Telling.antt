@@ -16,7 +16,7 @@ use Rattle.reading.proofs.Refusals.{ended}
 use Rattle.engine.specs.declared.rule.Cause.{Cause}
 use Rattle.engine.specs.declared.rule.Cause.the-variants as C
 use Rattle.engine.specs.Meaning.{stateOf, number}
-use Rattle.engine.specs.Ran.{filled}
+use Rattle.reading.specs.Buffer.{filled}
 use Rattle.engine.proofs.States.{long-number, foreign-number, pad-number, spare-number, after-number, short-number, cause-number}
 use Rattle.stream.specs.declared.reader.Status.{Status}
 use Rattle.stream.specs.declared.reader.Status.the-variants as U

@@ -14,7 +14,8 @@ use Rattle.answer.specs.declared.Outcome.the-variants as O
 use Rattle.engine.specs.declared.rule.Cause.{Cause}
 use Rattle.engine.specs.declared.rule.Cause.the-variants as C
 use Rattle.engine.specs.Meaning.{stateOf, number}
-use Rattle.engine.specs.Ran.{filled, coreOf, causeOf}
+use Rattle.reading.specs.Buffer.{filled}
+use Rattle.engine.specs.Ran.{coreOf, causeOf}
 use Rattle.stream.specs.declared.reader.Status.{Status}
 use Rattle.stream.specs.declared.reader.Status.the-variants as U
 use Rattle.stream.specs.declared.reader.Reader.{Reader}

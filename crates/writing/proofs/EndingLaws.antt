@@ -17,7 +17,7 @@ use Rattle.alphabet.specs.Written.{wanting, written, writtenLength}
 use Rattle.alphabet.proofs.AlphabetLaws.{bits-low}
 use Rattle.alphabet.proofs.Lengths.{written-length}
 use Rattle.writing.specs.Front.{front, heldOf, ending, rest}
-use Rattle.writing.specs.Whole.{over}
+use Rattle.reading.specs.Buffer.{filled}
 use Rattle.writing.specs.Contracts.{Sound}
 use Rattle.writing.proofs.FrontLaws.{front-length, front-rest}
 
@@ -103,7 +103,7 @@ laid o at x pads e l =
     rw (e, length-replicate pads pad) (paste-more o at x (replicate pads pad) pads l ∙ ap (paste o at (x ∷ replicate pads pad)) (add-one pads))
 
 -- the whole of a text at the front
-pub paste-front : (o text : List ℕ) → paste o 0 text (length text) ≡ over text o
+pub paste-front : (o text : List ℕ) → paste o 0 text (length text) ≡ filled text o
 paste-front o text = rw (take-length text, zero-add)
 
 -- one pad more

@@ -22,7 +22,7 @@ use Rattle.writing.specs.declared.Stepped.{Stepped}
 use Rattle.writing.specs.Front.{ending}
 use Rattle.writing.specs.Machine.{Run}
 use Rattle.writing.specs.Stream.{at, count, sound, Turn, unmoved, closed, byWhy, close, byStatus, inOrder, ranOf, stepOf, finishOf}
-use Rattle.writing.specs.Whole.{over}
+use Rattle.reading.specs.Buffer.{filled}
 use Rattle.writing.specs.Contracts.{RanAs, given, asStepped, statusBy, outcomeBy, ranAs, opened, ClosedAs, handedOut, SteppedAs, FinishedAs}
 use Rattle.writing.proofs.NumberLaws.{step-numbers, finish-numbers}
 use Rattle.writing.proofs.Moments.{step-moment, finish-moment}
@@ -73,12 +73,12 @@ unfolding finishOf
 finish-counts s room = count-order s _ (count-close s (ending (s .alphabet) (s .taken) (s .held)) room)
 
 -- what is read off the buffer is what was written
-read-off : (t : Turn) (r : Stepped) (o o' : List ℕ) → Counted t → r ≡ asStepped t → o' ≡ over (t .wrote) o → handedOut r o' ≡ t .wrote
+read-off : (t : Turn) (r : Stepped) (o o' : List ℕ) → Counted t → r ≡ asStepped t → o' ≡ filled (t .wrote) o → handedOut r o' ≡ t .wrote
 read-off t r o o' c e b = rw (e, b, c) (take-append-seam (t .wrote) (drop (length (t .wrote)) o))
 
 -- ---- from the equation to the promise
 
-pub step-promise : (s : Writer) (piece o o' : List ℕ) (r : Stepped) → r ≡ asStepped (stepOf s piece (length o)) → o' ≡ over (stepOf s piece (length o) .wrote) o
+pub step-promise : (s : Writer) (piece o o' : List ℕ) (r : Stepped) → r ≡ asStepped (stepOf s piece (length o)) → o' ≡ filled (stepOf s piece (length o) .wrote) o
     → SteppedAs s piece o o' r
 step-promise s piece o o' r e b =
     record {
@@ -89,7 +89,7 @@ step-promise s piece o o' r e b =
           rw (read-off (stepOf s piece (length o)) r o o' (step-counts s piece (length o)) e b, e) (step-moment m piece (length o));
     }
 
-pub finish-promise : (s : Writer) (o o' : List ℕ) (r : Stepped) → r ≡ asStepped (finishOf s (length o)) → o' ≡ over (finishOf s (length o) .wrote) o
+pub finish-promise : (s : Writer) (o o' : List ℕ) (r : Stepped) → r ≡ asStepped (finishOf s (length o)) → o' ≡ filled (finishOf s (length o) .wrote) o
     → FinishedAs s o o' r
 finish-promise s o o' r e b =
     record {
@@ -147,10 +147,10 @@ unfolding byStatus
 open-order s t e f = in-order s t e f
 
 module _ (s : Writer) (piece o : List ℕ) where
-  step-by : (t : Turn) (o' : List ℕ) (r : Stepped) → stepOf s piece (length o) ≡ t → r ≡ asStepped t → o' ≡ over (t .wrote) o → SteppedAs s piece o o' r
+  step-by : (t : Turn) (o' : List ℕ) (r : Stepped) → stepOf s piece (length o) ≡ t → r ≡ asStepped t → o' ≡ filled (t .wrote) o → SteppedAs s piece o o' r
   step-by t o' r q e b = step-promise s piece o o' r (rw q e) (rw q b)
 
-  finish-by : (t : Turn) (o' : List ℕ) (r : Stepped) → finishOf s (length o) ≡ t → r ≡ asStepped t → o' ≡ over (t .wrote) o → FinishedAs s o o' r
+  finish-by : (t : Turn) (o' : List ℕ) (r : Stepped) → finishOf s (length o) ≡ t → r ≡ asStepped t → o' ≡ filled (t .wrote) o → FinishedAs s o o' r
   finish-by t o' r q e b = finish-promise s o o' r (rw q e) (rw q b)
 
   pub step-bad : (r : Stepped) → sound s ≡ false → r ≡ asStepped (unmoved s K.BadState) → SteppedAs s piece o o r
@@ -183,14 +183,14 @@ module _ (s : Writer) (piece o : List ℕ) where
     unfolding stepOf
     step-ran o' x r e a f =
         let R : Run = ranOf s piece (length o) in
-        step-by (byWhy (R .why) s R) o' r (open-order s _ ok e) (f ∙ as-why (R .why) s R x o o' a refl) (a .buffer ∙ ap (λ (w : List ℕ). over w o) (wrote-why (R .why) s R))
+        step-by (byWhy (R .why) s R) o' r (open-order s _ ok e) (f ∙ as-why (R .why) s R x o o' a refl) (a .buffer ∙ ap (λ (w : List ℕ). filled w o) (wrote-why (R .why) s R))
 
     pub finish-closed : (o' : List ℕ) (r : Stepped) → s .status ≡ U.Open → ClosedAs (s .alphabet) (s .taken) (s .held) o o' r → FinishedAs s o o' r
     unfolding finishOf
     finish-closed o' r e a =
         let q : opened (s .alphabet) (s .taken) (s .held) ≡ s = ap (λ (u : Status). record { alphabet = s .alphabet; taken = s .taken; held = s .held; status = u }) (sym e) in
         let T : Writer → Turn = λ w. close w (ending (s .alphabet) (s .taken) (s .held)) (length o) in
-        finish-by (T s) o' r (open-order s _ ok e) (a .result ∙ ap (λ (w : Writer). asStepped (T w)) q) (a .buffer ∙ ap (λ (w : Writer). over (T w .wrote) o) q)
+        finish-by (T s) o' r (open-order s _ ok e) (a .result ∙ ap (λ (w : Writer). asStepped (T w)) q) (a .buffer ∙ ap (λ (w : Writer). filled (T w .wrote) o) q)
 
 -- ---- the finish of an open writer
 

@@ -19,7 +19,8 @@ use Rattle.alphabet.proofs.Runs.{joined-lt}
 use Rattle.alphabet.proofs.Cutting.{pack-bits}
 use Rattle.writing.specs.Front.{front, heldOf, rest}
 use Rattle.writing.specs.Machine.{waiting, fullRuns, completes}
-use Rattle.writing.specs.Shared.{Begins, Shared, LongestShared}
+use Rattle.reading.specs.Continuation.{Begins}
+use Rattle.writing.specs.Shared.{Shared, LongestShared}
 use Rattle.writing.specs.declared.Status.the-variants as U
 use Rattle.writing.specs.declared.Writer.{Writer}
 use Rattle.writing.specs.Moment.{Calls}

@@ -19,7 +19,8 @@ use Rattle.writing.specs.declared.Ran.{Ran}
 use Rattle.writing.specs.Front.{front, heldOf, ending, rest}
 use Rattle.writing.specs.Machine.{run}
 use Rattle.writing.specs.Stream.{at, count}
-use Rattle.writing.specs.Whole.{over, Wrote, nothing, writeOf}
+use Rattle.reading.specs.Buffer.{filled}
+use Rattle.writing.specs.Whole.{Wrote, nothing, writeOf}
 use Rattle.writing.specs.Contracts.{Sound, RanAs, WroteAs}
 use Rattle.alphabet.proofs.AlphabetLaws.{bits-low}
 use Rattle.writing.proofs.FrontLaws.{full-flow, front-length, front-rest}
@@ -28,7 +29,7 @@ use Rattle.writing.proofs.EndingLaws.{ending-length}
 use Rattle.writing.proofs.Through.{Through, runs-through}
 
 module _ (a : ℕ) (src o : List ℕ) where
-  write-by : (t : Wrote) (o' : List ℕ) (r : Outcome) → writeOf a src (length o) ≡ t → told r ≡ t .told → o' ≡ over (t .text) o → WroteAs a src o o' r
+  write-by : (t : Wrote) (o' : List ℕ) (r : Outcome) → writeOf a src (length o) ≡ t → told r ≡ t .told → o' ≡ filled (t .text) o → WroteAs a src o o' r
   write-by t o' r q e b = record { answer = rw q e; buffer = rw q b }
 
   pub wrote-choice : 5 < a → WroteAs a src o o (O.Refused K.Choice (count 0))
@@ -63,7 +64,7 @@ module _ (a : ℕ) (src o : List ℕ) where
           (rw (lt-ltb a 6 known, le-ltb limit (length (written a src)) in-limit, lt-ltb (length o) (length (written a src)) (rw form at l)))
           (rw form (told-room (at 0) (count (length (written a src))))) refl
 
-      pub wrote-all : (o' : List ℕ) → need ≤ length o → o' ≡ over (written a src) o → WroteAs a src o o' (O.Accepted (at need) (count need))
+      pub wrote-all : (o' : List ℕ) → need ≤ length o → o' ≡ filled (written a src) o → WroteAs a src o o' (O.Accepted (at need) (count need))
       unfolding writeOf
       wrote-all o' l b =
           let n : ℕ = length (written a src) in
@@ -89,13 +90,13 @@ module _ (a : ℕ) (h : a < 6) (src o o' : List ℕ) (r : Ran) (w : writtenLengt
   at-is : r .written ≡ length (front a src)
   at-is = ran .written ∙ ap length (through .wrote)
 
-  front-laid : o' ≡ over (front a src) o
-  front-laid = ran .buffer ∙ ap (λ (x : List ℕ). over x o) (through .wrote)
+  front-laid : o' ≡ filled (front a src) o
+  front-laid = ran .buffer ∙ ap (λ (x : List ℕ). filled x o) (through .wrote)
 
   pub room-for-ending : r .written + length (ending a (length src) (r .held)) ≤ length o
   room-for-ending = rw at-is (omega (arith, front-length a h src, ending-length a (length src) (r .held) h))
 
-  pub whole-laid : paste o' (r .written) (ending a (length src) (r .held)) (length (ending a (length src) (r .held))) ≡ over (written a src) o
+  pub whole-laid : paste o' (r .written) (ending a (length src) (r .held)) (length (ending a (length src) (r .held))) ≡ filled (written a src) o
   unfolding rest
   whole-laid =
       let f : List ℕ = front a src in

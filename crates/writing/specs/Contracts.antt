@@ -15,7 +15,8 @@ use Rattle.writing.specs.Machine.{Run}
 use Rattle.writing.specs.Stream.{at, count, Turn, close, stepOf, finishOf}
 use Rattle.writing.specs.Numbers.{stepNumbers, finishNumbers}
 use Rattle.writing.specs.Moment.{After}
-use Rattle.writing.specs.Whole.{over, writeOf}
+use Rattle.reading.specs.Buffer.{filled}
+use Rattle.writing.specs.Whole.{writeOf}
 use Rattle.writing.specs.declared.Why.{Why}
 use Rattle.writing.specs.declared.Why.the-variants as W
 use Rattle.writing.specs.declared.Status.{Status}
@@ -38,7 +39,7 @@ pub record RanAs (R : Run) (r : Ran) (o o' : List ℕ) : Type 0 where
   pub why : r .why ≡ R .why
   pub taken : r .taken ≡ R .took
   pub written : r .written ≡ length (R .wrote)
-  pub buffer : o' ≡ over (R .wrote) o
+  pub buffer : o' ≡ filled (R .wrote) o
 
 -- what a call gives, as the code returns it
 abbrev pub given : Writer → Outcome → ℕ → Stepped
@@ -68,7 +69,7 @@ opened a n held = record { alphabet = a; taken = n; held = held; status = U.Open
 
 pub record ClosedAs (a n held : ℕ) (o o' : List ℕ) (r : Stepped) : Type 0 where
   pub result : r ≡ asStepped (close (opened a n held) (ending a n held) (length o))
-  pub buffer : o' ≡ over (close (opened a n held) (ending a n held) (length o) .wrote) o
+  pub buffer : o' ≡ filled (close (opened a n held) (ending a n held) (length o) .wrote) o
 
 -- ---- the stream
 
@@ -78,14 +79,14 @@ handedOut r o' = take (told (r .told .outcome) .count) o'
 
 pub record SteppedAs (s : Writer) (piece o o' : List ℕ) (r : Stepped) : Type 0 where
   pub result : r ≡ asStepped (stepOf s piece (length o))
-  pub buffer : o' ≡ over (stepOf s piece (length o) .wrote) o
+  pub buffer : o' ≡ filled (stepOf s piece (length o) .wrote) o
   pub answer : told (r .told .outcome) ≡ stepNumbers s piece (length o)
   -- after any source, the state and the text handed out are those of the source with what was taken
   pub moment : (src text : List ℕ) → After s src text → After (r .state) (src ++ take (r .told .taken .0) piece) (text ++ handedOut r o')
 
 pub record FinishedAs (s : Writer) (o o' : List ℕ) (r : Stepped) : Type 0 where
   pub result : r ≡ asStepped (finishOf s (length o))
-  pub buffer : o' ≡ over (finishOf s (length o) .wrote) o
+  pub buffer : o' ≡ filled (finishOf s (length o) .wrote) o
   pub answer : told (r .told .outcome) ≡ finishNumbers s (length o)
   -- after any source, the text handed out is the whole written form where the stream is finished, else as it was
   pub moment : (src text : List ℕ) → After s src text → After (r .state) src (text ++ handedOut r o')
@@ -94,4 +95,4 @@ pub record FinishedAs (s : Writer) (o o' : List ℕ) (r : Stepped) : Type 0 wher
 
 pub record WroteAs (a : ℕ) (src o o' : List ℕ) (r : Outcome) : Type 0 where
   pub answer : told r ≡ writeOf a src (length o) .told
-  pub buffer : o' ≡ over (writeOf a src (length o) .text) o
+  pub buffer : o' ≡ filled (writeOf a src (length o) .text) o

@@ -1,15 +1,10 @@
 -- 01, "Answers", of the good bytes: "they are exactly the longest start that all accepted continuations of the text before it share"; the same of
 -- a writer's text: the longest start that the written forms of all continuations of a source share. L is not counted. Assumes nothing.
 use Prim.Native.Nat.{ℕ}
-use mathlib.Core.Path.{_≡_}
 use mathlib.Core.List.{List, _++_}
 use Rattle.alphabet.specs.Bits.{Below}
 use Rattle.alphabet.specs.Written.{written}
-
--- the list begins with s
-pub record Begins (s whole : List ℕ) : Type 0 where
-  pub rest : List ℕ
-  pub whole-is : whole ≡ s ++ rest
+use Rattle.reading.specs.Continuation.{Begins}
 
 -- the written form of every continuation of the source begins with s; nothing added is one of them
 abbrev pub Shared : ℕ → List ℕ → List ℕ → Type 0

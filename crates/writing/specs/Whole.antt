@@ -2,16 +2,12 @@
 -- Assumes nothing.
 use Prim.Native.Nat.{ℕ}
 use mathlib.Core.Bool.{cond}
-use mathlib.Core.List.{List, [], _++_}
+use mathlib.Core.List.{List, []}
 use lib.Dec.{ltb}
-use lib.ListN.{length, drop}
+use lib.ListN.{length}
 use Rattle.answer.specs.Told.{Told}
 use Rattle.alphabet.specs.Written.{written}
 use Rattle.reading.specs.Limit.{limit}
-
--- the text at the front of a buffer, every later byte as it was
-abbrev pub over : List ℕ → List ℕ → List ℕ
-over text o = text ++ drop (length text) o
 
 -- answer, position and count, and what is written
 pub record Wrote : Type 0 where

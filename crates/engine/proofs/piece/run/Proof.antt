@@ -5,7 +5,8 @@ use native.Mathlib.Omega.{arith}
 use lib.ListN.{length, take}
 use Rattle.reading.specs.Piece.{run}
 use Rattle.engine.specs.Meaning.{stateOf}
-use Rattle.engine.specs.Ran.{filled, runAs, runBytes}
+use Rattle.reading.specs.Buffer.{filled}
+use Rattle.engine.specs.Ran.{runAs, runBytes}
 use Rattle.engine.proofs.AtLimit.{is-ready, ready-for, front-length, front-within, run-cut, run-whole, run-none}
 use borrow.Author.Needs.{needs}
 use Rattle.engine.proofs.piece.run.Statement.{statement}
