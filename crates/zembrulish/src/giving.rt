@@ -1,7 +1,7 @@
 // E: the loop over the streaming writer. Every turn reads, or takes bytes of the source and writes their digits, or ends.
 use crate::input;
 use crate::input::Got;
-use crate::line::LINE;
+use line::LINE;
 use crate::output::least;
 use crate::output::put;
 use crate::said;

@@ -1,5 +1,5 @@
 // Standard input, read into a lent buffer. No contract can say what is read.
-use crate::line::LINE;
+use line::LINE;
 use crate::output::least;
 use libc::STDIN_FILENO;
 ghost use Prim.Native.Nat.{_≤_};

@@ -1,7 +1,6 @@
 // The program: its first line says what to do, the rest of standard input is data, which is read, worked on and written piece by piece.
 mod giving; // giving.rt: E, the loop over the streaming writer
 mod input; // input.rt: standard input, read into a lent buffer
-mod line; // line.rt: the first line
 mod output; // output.rt: standard output
 mod said; // said.rt: the line that J prints
 mod taking; // taking.rt: J and D, the loop over the streaming reader

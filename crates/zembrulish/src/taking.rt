@@ -1,7 +1,7 @@
 // J and D: the loop over the streaming reader. Every turn reads, or takes bytes of the text, or ends.
 use crate::input;
 use crate::input::Got;
-use crate::line::LINE;
+use line::LINE;
 use crate::output::least;
 use crate::output::put;
 use crate::said;

@@ -1,10 +1,10 @@
--- `line::is_shaped`: byte after byte, in the order of the definition. Assumes nothing.
+-- `is_shaped`: byte after byte, in the order of the definition. Assumes nothing.
 use mathlib.Core.Path.{sym, _∙_}
 use borrow.Author.Tests.{eq-eqb, ne-eqb, not-true, not-false}
-use Rattle.zembrulish.specs.FirstLine.{shaped}
+use Rattle.line.specs.FirstLine.{shaped}
 use borrow.Author.Needs.{needs}
-use Rattle.zembrulish.proofs.line.is_shaped.Statement.{statement}
-use Rattle.zembrulish.proofs.line.is_shaped.Tie as tie
+use Rattle.line.proofs.is_shaped.Statement.{statement}
+use Rattle.line.proofs.is_shaped.Tie as tie
 
 shared-slice-read-if1 : tie.Need-shared-slice-read-if1
 shared-slice-read-if1 c = search needs

@@ -1,10 +1,10 @@
--- `line::parse`: too few bytes, the shape, then what is asked. Assumes nothing.
+-- `parse`: too few bytes, the shape, then what is asked. Assumes nothing.
 use borrow.Author.Tests.{lt-ltb, le-ltb}
 use mathlib.Core.Path.{sym, _∙_}
-use Rattle.zembrulish.specs.FirstLine.{firstOf}
+use Rattle.line.specs.FirstLine.{firstOf}
 use borrow.Author.Needs.{needs}
-use Rattle.zembrulish.proofs.line.parse.Statement.{statement}
-use Rattle.zembrulish.proofs.line.parse.Tie as tie
+use Rattle.line.proofs.parse.Statement.{statement}
+use Rattle.line.proofs.parse.Tie as tie
 
 returns : tie.Need-returns
 unfolding firstOf

@@ -1,8 +1,8 @@
-// The first line: a verb J, D or E, space, one alphabet digit, space, two digits of options, byte 10.
+// The program's first line: a verb J, D or E, space, one alphabet digit, space, two digits of options, byte 10.
 ghost use mathlib.Core.Path.{_≡_};
 ghost use Prim.Native.Nat.{_<_, _≤_};
 ghost use lib.ListN.{length};
-ghost use Rattle.zembrulish.specs.FirstLine.{isDigit, value, shaped, asked, firstOf};
+ghost use Rattle.line.specs.FirstLine.{isDigit, value, shaped, asked, firstOf};
 
 // What a first line asks for. Whether its choice is answer 1 is the stream's start to say.
 pub enum First {

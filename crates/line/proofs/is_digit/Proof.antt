@@ -1,8 +1,8 @@
--- `line::is_digit`. Assumes nothing.
+-- `is_digit`. Assumes nothing.
 use borrow.Author.Tests.{lt-leb, le-leb}
-use Rattle.zembrulish.specs.FirstLine.{isDigit}
-use Rattle.zembrulish.proofs.line.is_digit.Statement.{statement}
-use Rattle.zembrulish.proofs.line.is_digit.Tie as tie
+use Rattle.line.specs.FirstLine.{isDigit}
+use Rattle.line.proofs.is_digit.Statement.{statement}
+use Rattle.line.proofs.is_digit.Tie as tie
 
 returns : tie.Need-returns
 unfolding isDigit

@@ -1,8 +1,8 @@
--- `line::ask`: by the verb. Assumes nothing.
+-- `ask`: by the verb. Assumes nothing.
 use borrow.Author.Tests.{eq-eqb, ne-eqb}
-use Rattle.zembrulish.specs.FirstLine.{asked}
-use Rattle.zembrulish.proofs.line.ask.Statement.{statement}
-use Rattle.zembrulish.proofs.line.ask.Tie as tie
+use Rattle.line.specs.FirstLine.{asked}
+use Rattle.line.proofs.ask.Statement.{statement}
+use Rattle.line.proofs.ask.Tie as tie
 
 returns : tie.Need-returns
 unfolding asked

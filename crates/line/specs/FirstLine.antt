@@ -5,8 +5,8 @@ use mathlib.Core.Bool.{Bool, cond, _&&_}
 use mathlib.Core.List.{List}
 use lib.Dec.{eqb, ltb, leb}
 use lib.ListN.{length, getD}
-use Rattle.zembrulish.specs.declared.line.First.{First}
-use Rattle.zembrulish.specs.declared.line.First.the-variants as F
+use Rattle.line.specs.declared.First.{First}
+use Rattle.line.specs.declared.First.the-variants as F
 
 unfoldable pub isDigit : ℕ → Bool
 isDigit c = leb 48 c && ltb c 58
