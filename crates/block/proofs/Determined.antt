@@ -4,7 +4,7 @@ use mathlib.Core.Path.{_≡_, sym, _∙_}
 use mathlib.Core.List.{List}
 use Rattle.answer.specs.declared.Outcome.{Outcome}
 use Rattle.answer.proofs.ToldLaws.{told-determines}
-use Rattle.block.specs.Calls.{JudgeAs, ReadAs, InPlaceAs, TidyAs}
+use Rattle.block.specs.Calls.{JudgeAs, ReadAs, InPlaceAs}
 
 pub judge-determined : (a opts : ℕ) (t : List ℕ) {r s : Outcome} → JudgeAs a opts t r → JudgeAs a opts t s → r ≡ s
 judge-determined a opts t {r} {s} x y = told-determines r s (x .is ∙ sym (y .is))
@@ -14,6 +14,3 @@ read-determined a opts t o {r} {s} x y = (told-determines r s (x .is ∙ sym (y 
 
 pub in-place-determined : (a opts : ℕ) (t : List ℕ) {r s : Outcome} {p q : List ℕ} → InPlaceAs a opts t r p → InPlaceAs a opts t s q → (r ≡ s) × (p ≡ q)
 in-place-determined a opts t {r} {s} x y = (told-determines r s (x .is ∙ sym (y .is)), x .buffer ∙ sym (y .buffer))
-
-pub tidy-determined : (a opts : ℕ) (t o : List ℕ) {r s : Outcome} {p q : List ℕ} → TidyAs a opts t o r p → TidyAs a opts t o s q → (r ≡ s) × (p ≡ q)
-tidy-determined a opts t o {r} {s} x y = (told-determines r s (x .is ∙ sym (y .is)), x .buffer ∙ sym (y .buffer))

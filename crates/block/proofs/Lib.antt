@@ -2,13 +2,4 @@ pub mod Answers
 pub mod RoomLaws
 pub mod RoomByJudge
 pub mod ReaderReturns
-pub mod SpellingLaws
-pub mod TidyText
-pub mod AcceptedRun
-pub mod Buffers
-pub mod SpellingSteps
-pub mod PadSteps
-pub mod CleanWritten
-pub mod TidierReturns
 pub mod Determined
-pub mod RoundTrips

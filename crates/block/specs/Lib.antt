@@ -2,4 +2,3 @@ pub mod Whole
 pub mod Calls
 pub mod Answered
 pub mod Room
-pub mod Spelling

@@ -1,13 +1,12 @@
--- 01, "Whole calls": "Answer 1 comes first", and then what the judge, the reader into a second buffer, the reader in place and the tidier
--- answer and write. Assumes nothing.
+-- 01, "Whole calls": "Answer 1 comes first", and then what the judge, the reader into a second buffer and the reader in place answer and
+-- write. Assumes nothing.
 use Prim.Native.Nat.{ℕ}
 use mathlib.Core.Bool.{cond}
 use mathlib.Core.List.{List, []}
-use lib.Dec.{eqb, ltb}
+use lib.Dec.{ltb}
 use lib.ListN.{length}
 use Rattle.answer.specs.Told.{Told}
 use Rattle.reading.specs.Options.{allowed}
-use Rattle.reading.specs.Cleaning.{clean}
 use Rattle.reading.specs.Reader.{Verdict, judged}
 
 -- "Answer 1 comes first"; "the count is 0 on every answer 1"
@@ -45,21 +44,3 @@ readBytes a opts t room =
 
 unfoldable pub inPlaceBytes : ℕ → ℕ → List ℕ → List ℕ
 inPlaceBytes a opts t = cond (allowed a opts) (judged a opts t .good) []
-
--- ---- "The tidier: the judge's refusal first, nothing written; then 3 with the needed count, nothing written; else the cleaned text, the position
--- being the length read." "The count is 0 .. on every refusal of the tidier but 3."
-
-unfoldable pub tidyOf : ℕ → ℕ → List ℕ → ℕ → Told
-tidyOf a opts t room =
-    let v : Verdict = judged a opts t in
-    let need : ℕ = length (clean a opts t) in
-    cond (allowed a opts)
-    (cond (eqb (v .answer) 0)
-    (cond (ltb room need) (noRoom need) (record { answer = 0; position = length t; count = need }))
-    (record { answer = v .answer; position = v .position; count = 0 }))
-    choice
-
-unfoldable pub tidyText : ℕ → ℕ → List ℕ → ℕ → List ℕ
-tidyText a opts t room =
-    let text : List ℕ = clean a opts t in
-    cond (allowed a opts) (cond (eqb (judged a opts t .answer) 0) (cond (ltb room (length text)) [] text) []) []

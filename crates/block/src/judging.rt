@@ -30,7 +30,7 @@ fn kind(cause: Cause, place: Place) -> Kind
 }
 
 // What a run over a whole text answers.
-pub(crate) fn outcome(alphabet: usize, options: usize, ran: Ran) -> Outcome
+pub fn outcome(alphabet: usize, options: usize, ran: Ran) -> Outcome
     ensures { λ r. ⌜ told r ≡ answered alphabet options ran ⌝ }
 {
     let core = ran.core;

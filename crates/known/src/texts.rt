@@ -14,7 +14,7 @@ fn tidy(alphabet: usize, options: usize, text: &[u8]) {
     show::words(b"tidy ");
     show::number(alphabet);
     show::number(options);
-    let r = block::tidy(alphabet, options, text, &mut out);
+    let r = tidier::tidy(alphabet, options, text, &mut out);
     show::line(text, r, &out);
 }
 
