@@ -1,12 +1,12 @@
 // E: the loop over the streaming writer. Every turn reads, or takes bytes of the source and writes their digits, or ends.
 use crate::input;
 use crate::input::Got;
-use line::LINE;
 use crate::output::least;
 use crate::output::put;
 use crate::said;
 use crate::said::goes_on;
 use answer::numbers;
+use line::LINE;
 use writing::Start;
 use writing::Stepped;
 use writing::Writer;

@@ -1,7 +1,7 @@
 // Standard input, read into a lent buffer. No contract can say what is read.
-use line::LINE;
 use crate::output::least;
 use libc::STDIN_FILENO;
+use line::LINE;
 ghost use Prim.Native.Nat.{_≤_};
 ghost use lib.ListN.{length};
 

@@ -1,13 +1,13 @@
 // J and D: the loop over the streaming reader. Every turn reads, or takes bytes of the text, or ends.
 use crate::input;
 use crate::input::Got;
-use line::LINE;
 use crate::output::least;
 use crate::output::put;
 use crate::said;
 use crate::said::goes_on;
 use answer::Outcome;
 use answer::numbers;
+use line::LINE;
 use stream::reader::Reader;
 use stream::reader::Start;
 use stream::reader::Stepped;
