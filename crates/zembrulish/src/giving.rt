@@ -4,51 +4,18 @@ use crate::input::Got;
 use crate::output::least;
 use crate::output::put;
 use crate::said;
-use crate::said::goes_on;
 use answer::numbers;
 use line::LINE;
+use turns::giving::Going;
+use turns::giving::Turn;
+use turns::giving::after;
 use writing::Start;
-use writing::Stepped;
 use writing::Writer;
-ghost use mathlib.Core.Path.{_≡_};
 ghost use Prim.Native.Nat.{_≤_};
 ghost use lib.ListN.{length};
-ghost use Rattle.zembrulish.specs.Turns.{writeOn};
-
-// A writer, and the part of the buffer that it has not taken yet.
-struct Going {
-    writer: Writer,
-    at: usize,
-    end: usize,
-}
-
-enum Turn {
-    On(Going),
-    Ended,
-}
 
 // More turns than a source within the limit takes, a byte a turn and a read before each.
 const TURNS: u64 = 4294967296;
-
-// After a step: what was not taken is offered again, or answer 2 ends it.
-fn after(stepped: Stepped, at: usize, end: usize) -> Turn
-    requires { ⌜ at ≤ end ⌝ }
-    ensures { λ r. ⌜ r ≡ writeOn stepped at end ⌝ }
-{
-    let writer = stepped.state;
-    let told = stepped.told;
-    let outcome = told.outcome;
-    let took = told.taken;
-    if goes_on(outcome) {
-        let next = at + least(took.0, end - at);
-        return Turn::On(Going {
-            writer,
-            at: next,
-            end,
-        });
-    }
-    Turn::Ended
-}
 
 // A step over what is left in the buffer, whose digits are written.
 fn step(going: Going, end: usize, buf: &[u8], out: &mut [u8]) -> Turn

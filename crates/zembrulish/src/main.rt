@@ -7,13 +7,9 @@ mod taking; // taking.rt: J and D, the loop over the streaming reader
 
 use input::Got;
 use line::First;
-ghost use Prim.Native.Nat.{_≤_};
-ghost use lib.ListN.{length};
 
 // What the first line asks for, done on the data: those after it among the n bytes in the buffer, and all that are still to come.
-fn obey(n: usize, buf: &mut [u8], out: &mut [u8])
-    requires { ⌜ length (now out) ≤ 65536 ⌝ }
-{
+fn obey(n: usize, buf: &mut [u8], out: &mut [u8]) {
     let end = output::least(n, buf.len());
     match line::parse(&buf[..end]) {
         First::Judge(alphabet, options) => taking::read(false, alphabet, options, end, buf, out),

@@ -4,62 +4,22 @@ use crate::input::Got;
 use crate::output::least;
 use crate::output::put;
 use crate::said;
-use crate::said::goes_on;
-use answer::Outcome;
 use answer::numbers;
 use line::LINE;
 use stream::reader::Reader;
 use stream::reader::Start;
-use stream::reader::Stepped;
-ghost use mathlib.Core.Path.{_≡_};
-ghost use Prim.Native.Nat.{_+_, _≤_, _<_, _^_};
+use turns::taking::Going;
+use turns::taking::Turn;
+use turns::taking::after;
+ghost use Prim.Native.Nat.{_≤_};
 ghost use lib.ListN.{length};
-ghost use Rattle.zembrulish.specs.Turns.{readOn, Grown};
-
-// A reader, the good bytes that it has given, and the part of the buffer that it has not taken yet.
-struct Going {
-    reader: Reader,
-    good: usize,
-    at: usize,
-    end: usize,
-}
-
-// The loop goes on; the answer is settled, with the good bytes counted; or a read or a write failed.
-enum Turn {
-    On(Going),
-    Settled(Outcome, usize),
-    Failed,
-}
 
 // More turns than any text takes until its answer is settled, a byte a turn and a read before each.
 const TURNS: u64 = 4294967296;
 
-// After a step that gave n bytes: what was not taken is offered again, or the answer is settled.
-fn after(stepped: Stepped, n: usize, good: usize, at: usize, end: usize) -> Turn
-    requires { ⌜ (good + n < 2 ^ 64) × (at ≤ end) ⌝ }
-    ensures { λ r. ⌜ r ≡ readOn stepped n good at end ⌝ }
-{
-    let reader = stepped.state;
-    let told = stepped.told;
-    let outcome = told.outcome;
-    let took = told.taken;
-    let sum = good + n;
-    if goes_on(outcome) {
-        let next = at + least(took.0, end - at);
-        return Turn::On(Going {
-            reader,
-            good: sum,
-            at: next,
-            end,
-        });
-    }
-    Turn::Settled(outcome, sum)
-}
-
 // A step over what is left in the buffer; D writes the good bytes that it gives.
 fn step(going: Going, end: usize, writes: bool, buf: &[u8], out: &mut [u8]) -> Turn
-    requires { ⌜ (going .good + length (now out) < 2 ^ 64) × (going .at ≤ end) × (end ≤ length (now buf)) ⌝ }
-    ensures { λ r. ⌜ Grown r (going .good + length (now (out .entry))) ⌝ }
+    requires { ⌜ (going .at ≤ end) × (end ≤ length (now buf)) ⌝ }
 {
     let reader = going.reader;
     let good = going.good;
@@ -78,9 +38,7 @@ fn step(going: Going, end: usize, writes: bool, buf: &[u8], out: &mut [u8]) -> T
 }
 
 // A read, or the end of the text.
-fn refill(going: Going, buf: &mut [u8]) -> Turn
-    ensures { λ r. ⌜ Grown r (going .good) ⌝ }
-{
+fn refill(going: Going, buf: &mut [u8]) -> Turn {
     let reader = going.reader;
     let good = going.good;
     match input::again(buf) {
@@ -102,10 +60,7 @@ fn refill(going: Going, buf: &mut [u8]) -> Turn
     }
 }
 
-fn one_turn(going: Going, writes: bool, buf: &mut [u8], out: &mut [u8]) -> Turn
-    requires { ⌜ going .good + length (now out) < 2 ^ 64 ⌝ }
-    ensures { λ r. ⌜ Grown r (going .good + length (now (out .entry))) ⌝ }
-{
+fn one_turn(going: Going, writes: bool, buf: &mut [u8], out: &mut [u8]) -> Turn {
     let at = going.at;
     let end = least(going.end, buf.len());
     if at < end {
@@ -114,9 +69,7 @@ fn one_turn(going: Going, writes: bool, buf: &mut [u8], out: &mut [u8]) -> Turn
     refill(going, buf)
 }
 
-fn drive(start: Going, writes: bool, buf: &mut [u8], out: &mut [u8]) -> Turn
-    requires { ⌜ (start .good ≡ 0) × (length (now out) ≤ 65536) ⌝ }
-{
+fn drive(start: Going, writes: bool, buf: &mut [u8], out: &mut [u8]) -> Turn {
     let mut going = start;
     let mut turns = TURNS;
     while 0 < turns {
@@ -157,9 +110,7 @@ pub(crate) fn read(
     end: usize,
     buf: &mut [u8],
     out: &mut [u8],
-)
-    requires { ⌜ length (now out) ≤ 65536 ⌝ }
-{
+) {
     match Reader::start(alphabet, options) {
         Start::Started(reader) => {
             let start = Going {

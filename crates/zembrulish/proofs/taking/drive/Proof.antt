@@ -1,5 +1,4 @@
--- `taking::drive`: the loop has a budget of turns, and the good bytes counted grow by no more than the room in each. Assumes nothing.
-use Prim.Native.Nat.{_+_, _*_, _≤_}
+-- `taking::drive`: the loop has a budget of turns. Assumes nothing.
 use mathlib.Core.Path.{_≡_}
 use native.Mathlib.Omega.{arith}
 use lib.ListN.{length}
@@ -8,7 +7,7 @@ use Rattle.zembrulish.proofs.taking.drive.Statement.{statement}
 use Rattle.zembrulish.proofs.taking.drive.Tie as tie
 
 abbrev Inv-loop : tie.InvT-loop
-Inv-loop writes buf₀ out₀ going₀ turns₀ buf out going turns = (length buf ≡ length buf₀) × (length out ≡ length out₀) × (going .good + 65536 * turns ≤ 281474976710656)
+Inv-loop writes buf₀ out₀ going₀ turns₀ buf out going turns = (length buf ≡ length buf₀) × (length out ≡ length out₀)
 
 abbrev μ-loop : tie.MeasureT-loop
 μ-loop writes buf₀ out₀ going₀ turns₀ buf out going turns = turns
@@ -17,7 +16,7 @@ loop-holds : tie.Need-loop-holds Inv-loop μ-loop
 loop-holds c = search needs
 
 one-turn-requires : tie.Need-one-turn-requires Inv-loop μ-loop
-one-turn-requires c κs = omega arith
+one-turn-requires c κs = search needs
 
 enum-known-next : tie.Need-enum-known-next Inv-loop μ-loop
 enum-known-next c = search needs
@@ -29,9 +28,7 @@ loop-less : tie.Need-loop-less Inv-loop μ-loop
 loop-less c = omega arith
 
 loop-again : tie.Need-loop-again Inv-loop μ-loop
-loop-again c =
-    let grown = rw (c .before .next .given .1) at (c .before .before .before .before .before .before .before .one-turn .ensures) in
-    (omega arith, omega arith, omega arith)
+loop-again c = search needs
 
 enum-known-outcome : tie.Need-enum-known-outcome Inv-loop μ-loop
 enum-known-outcome c = search needs

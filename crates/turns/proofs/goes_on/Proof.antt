@@ -1,10 +1,10 @@
--- `said::goes_on`: by the number of the answer. Assumes nothing.
+-- `goes_on`: by the number of the answer. Assumes nothing.
 use mathlib.Core.Path.{sym, _∙_}
 use borrow.Author.Tests.{eq-eqb, ne-eqb}
-use Rattle.zembrulish.specs.Turns.{goesOn}
+use Rattle.turns.specs.Turns.{goesOn}
 use borrow.Author.Needs.{needs}
-use Rattle.zembrulish.proofs.said.goes_on.Statement.{statement}
-use Rattle.zembrulish.proofs.said.goes_on.Tie as tie
+use Rattle.turns.proofs.goes_on.Statement.{statement}
+use Rattle.turns.proofs.goes_on.Tie as tie
 
 answer-requires : tie.Need-answer-requires
 answer-requires c κs = search needs
