@@ -4,11 +4,12 @@ use mathlib.Core.Path.{_≡_, sym, _∙_}
 use mathlib.Core.Logic.{_↔_}
 use mathlib.Core.List.{List}
 use lib.ListN.{length}
-use Rattle.stream.specs.declared.reader.Status.the-variants as U
+use Rattle.states.specs.declared.Status.the-variants as U
 use Rattle.stream.specs.declared.reader.Reader.{Reader}
 use Rattle.streaming.specs.Stream.{live}
 use Rattle.streaming.specs.Reached.{Reachable}
-use Rattle.stream.specs.Stepped.{statusOf, streamOf}
+use Rattle.states.specs.Status.{statusOf}
+use Rattle.stream.specs.Stepped.{streamOf}
 use Rattle.stream.specs.Made.{steps, finishes, Reached}
 use Rattle.stream.specs.Carried.{StepCarried, FinishCarried}
 use Rattle.streaming.proofs.AfterCalls.{after-any-calls}

@@ -8,8 +8,8 @@ use lib.ListN.{length, take, drop}
 use Rattle.alphabet.specs.Bits.{Below}
 use Rattle.reading.specs.Reader.{Verdict}
 use Rattle.reading.specs.Promises.{Promised}
-use Rattle.stream.specs.declared.reader.Status.{Status}
-use Rattle.stream.specs.declared.reader.Status.the-variants as U
+use Rattle.states.specs.declared.Status.{Status}
+use Rattle.states.specs.declared.Status.the-variants as U
 use Rattle.stream.specs.declared.reader.Reader.{Reader}
 use Rattle.stream.specs.declared.reader.Start.the-variants as B
 use Rattle.streaming.specs.Stream.{done, Stream}
@@ -18,7 +18,8 @@ use Rattle.streaming.specs.Driving as D
 use Rattle.streaming.specs.Driving.{Driven, offer, drive, Offering, Refused, Settled}
 use Rattle.streaming.specs.Promises.{finishVerdict, Settles}
 use Rattle.engine.specs.Meaning.{number}
-use Rattle.stream.specs.Stepped.{statusOf, streamOf, begun, finished}
+use Rattle.states.specs.Status.{statusOf}
+use Rattle.stream.specs.Stepped.{streamOf, begun, finished}
 use Rattle.stream.specs.Made.{Lent, Held, begins, offerBy, driveBy, offerOf, drivenOf, ShutBy, SettledBy, verdictBy}
 use Rattle.stream.specs.Carried.{SettlesBy}
 use Rattle.streaming.proofs.Again.{live-shut, done-shut}

@@ -13,10 +13,11 @@ use Rattle.engine.specs.declared.rule.Cause.the-variants as C
 use Rattle.engine.specs.Meaning.{number}
 use Rattle.engine.specs.Ran.{causeOf}
 use Rattle.engine.proofs.States.{long-number, foreign-number, pad-number, spare-number, after-number, short-number, cause-number}
-use Rattle.stream.specs.declared.reader.Status.{Status}
-use Rattle.stream.specs.declared.reader.Status.the-variants as U
+use Rattle.states.specs.declared.Status.{Status}
+use Rattle.states.specs.declared.Status.the-variants as U
 use Rattle.stream.specs.declared.reader.Reader.{Reader}
-use Rattle.stream.specs.Stepped.{statusOf, statusAs, streamOf, readerOf, place, count, kindBy, kindOf, outcomeOf}
+use Rattle.states.specs.Status.{statusOf}
+use Rattle.stream.specs.Stepped.{statusAs, streamOf, readerOf, place, count, kindBy, kindOf, outcomeOf}
 
 -- the number of some cause
 pub record IsCause (k : ℕ) : Type 0 where

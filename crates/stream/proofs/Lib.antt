@@ -1,4 +1,3 @@
-pub mod Tests
 pub mod Causes
 pub mod Returns
 pub mod Telling

@@ -15,7 +15,8 @@ use Rattle.streaming.specs.Given.{given}
 use Rattle.streaming.specs.Calls.{Called, stepOf, finishOf}
 use Rattle.streaming.specs.Reached as R
 use Rattle.streaming.specs.Reached.{Calls, Reachable}
-use Rattle.stream.specs.Stepped.{statusOf, statusAs, streamOf, readerOf, stepped, finished, startAs, begun}
+use Rattle.states.specs.Status.{statusOf}
+use Rattle.stream.specs.Stepped.{statusAs, streamOf, readerOf, stepped, finished, startAs, begun}
 use Rattle.stream.specs.Made.{Made, starts, steps, finishes, Reached}
 use Rattle.streaming.proofs.Standing.{Refusal, at-limit, at-byte, at-end, Stands}
 use Rattle.streaming.proofs.GivenLaws.{given-says}

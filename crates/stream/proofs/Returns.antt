@@ -26,7 +26,7 @@ use Rattle.reading.specs.Buffer.{filled}
 use Rattle.engine.specs.Ran.{coreOf, whyAs, ranAs, ready, runAs, runBytes}
 use Rattle.engine.proofs.FromFresh.{all-as, refused-as, full-as}
 use Rattle.engine.proofs.States.{cause-number, ready-runs, ready-bytes}
-use Rattle.stream.specs.declared.reader.Status.the-variants as U
+use Rattle.states.specs.declared.Status.the-variants as U
 use Rattle.stream.specs.declared.reader.Reader.{Reader}
 use Rattle.stream.specs.declared.reader.Stepped.{Stepped}
 use Rattle.stream.specs.declared.reader.Start.the-variants as B
@@ -34,11 +34,12 @@ use Rattle.streaming.specs.Stream.{live, startOf}
 use Rattle.streaming.specs.Given.{given, readable}
 use Rattle.streaming.specs.Calls.{Called, unmoved, whyStatus, whyAnswer, ran, stepOf, endStatus, closes}
 use Rattle.streaming.specs.Promises.{Sticks}
-use Rattle.stream.specs.Stepped.{statusOf, statusAs, streamOf, place, count, kindBy, kindOf, outcomeOf, returned, stepped, written, finished, startAs, begun}
+use Rattle.states.specs.Status.{statusOf}
+use Rattle.stream.specs.Stepped.{statusAs, streamOf, place, count, kindBy, kindOf, outcomeOf, returned, stepped, written, finished, startAs, begun}
 use Rattle.stream.specs.Packed.{reader, packed, untold, byWhy, asStep, asEnd}
 use Rattle.streaming.proofs.Order.{nine-sticks, ten-sticks, refusal-sticks, live-step, live-finish}
 use Rattle.streaming.proofs.GivenLaws.{given-says}
-use Rattle.stream.proofs.Tests.{given-ready}
+use Rattle.states.proofs.Tests.{given-ready}
 use Rattle.stream.proofs.Causes.{IsCause, long-cause, blame-cause, some-number, status-back, refused-outcome, cause-outcome}
 
 -- ---- a start

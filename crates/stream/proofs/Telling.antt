@@ -18,15 +18,16 @@ use Rattle.engine.specs.declared.rule.Cause.the-variants as C
 use Rattle.engine.specs.Meaning.{stateOf, number}
 use Rattle.reading.specs.Buffer.{filled}
 use Rattle.engine.proofs.States.{long-number, foreign-number, pad-number, spare-number, after-number, short-number, cause-number}
-use Rattle.stream.specs.declared.reader.Status.{Status}
-use Rattle.stream.specs.declared.reader.Status.the-variants as U
+use Rattle.states.specs.declared.Status.{Status}
+use Rattle.states.specs.declared.Status.the-variants as U
 use Rattle.stream.specs.declared.reader.Reader.{Reader}
 use Rattle.streaming.specs.Stream as S
 use Rattle.streaming.specs.Stream.{Stream}
 use Rattle.streaming.specs.Given.{given}
 use Rattle.streaming.specs.Calls.{Called, unmoved, whyStatus, whyAnswer, ran, stepOf, endStatus, closes, finishOf}
 use Rattle.streaming.specs.Promises.{Sticks}
-use Rattle.stream.specs.Stepped.{statusOf, statusAs, streamOf, place, count, kindBy, kindOf, outcomeOf, returned, stepped, written, finished}
+use Rattle.states.specs.Status.{statusOf}
+use Rattle.stream.specs.Stepped.{statusAs, streamOf, place, count, kindBy, kindOf, outcomeOf, returned, stepped, written, finished}
 use Rattle.stream.specs.Made.{Tells}
 use Rattle.streaming.proofs.Order.{nine-sticks, ten-sticks, refusal-sticks, live-step, live-finish}
 use Rattle.streaming.proofs.GivenLaws.{given-says}

@@ -8,7 +8,7 @@ use lib.ListN.{length, take}
 use Rattle.alphabet.specs.Bits.{Below}
 use Rattle.reading.specs.Reader.{judged}
 use Rattle.reading.specs.Promises.{Promised}
-use Rattle.stream.specs.declared.reader.Status.the-variants as U
+use Rattle.states.specs.declared.Status.the-variants as U
 use Rattle.stream.specs.declared.reader.Reader.{Reader}
 use Rattle.streaming.specs.Calls.{stepOf, finishOf}
 use Rattle.streaming.specs.Promises.{GivenAgain, AfterCalls, GoesOn, RefusesExactly}

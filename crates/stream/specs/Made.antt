@@ -9,7 +9,7 @@ use Rattle.answer.specs.Told.{told}
 use Rattle.alphabet.specs.Bits.{Below}
 use Rattle.reading.specs.Reader.{Verdict}
 use Rattle.engine.specs.declared.rule.Cause.{Cause}
-use Rattle.stream.specs.declared.reader.Status.the-variants as U
+use Rattle.states.specs.declared.Status.the-variants as U
 use Rattle.stream.specs.declared.reader.Reader.{Reader}
 use Rattle.stream.specs.declared.reader.Stepped.{Stepped}
 use Rattle.stream.specs.declared.reader.Start.the-variants as B

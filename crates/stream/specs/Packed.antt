@@ -10,8 +10,8 @@ use Rattle.engine.specs.declared.rule.End.the-variants as E
 use Rattle.engine.specs.declared.piece.Why.{Why}
 use Rattle.engine.specs.declared.piece.Why.the-variants as W
 use Rattle.engine.specs.declared.piece.Ran.{Ran}
-use Rattle.stream.specs.declared.reader.Status.{Status}
-use Rattle.stream.specs.declared.reader.Status.the-variants as U
+use Rattle.states.specs.declared.Status.{Status}
+use Rattle.states.specs.declared.Status.the-variants as U
 use Rattle.stream.specs.declared.reader.Reader.{Reader}
 use Rattle.stream.specs.declared.reader.Stepped.{Stepped}
 use Rattle.stream.specs.Stepped.{place, count, kindBy}

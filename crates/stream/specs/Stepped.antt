@@ -16,8 +16,9 @@ use Rattle.engine.specs.declared.rule.Cause.the-variants as C
 use Rattle.engine.specs.Meaning.{stateOf, number}
 use Rattle.reading.specs.Buffer.{filled}
 use Rattle.engine.specs.Ran.{coreOf, causeOf}
-use Rattle.stream.specs.declared.reader.Status.{Status}
-use Rattle.stream.specs.declared.reader.Status.the-variants as U
+use Rattle.states.specs.Status.{statusOf}
+use Rattle.states.specs.declared.Status.{Status}
+use Rattle.states.specs.declared.Status.the-variants as U
 use Rattle.stream.specs.declared.reader.Reader.{Reader}
 use Rattle.stream.specs.declared.reader.Stepped.{Stepped}
 use Rattle.stream.specs.declared.reader.Start.{Start}
@@ -27,11 +28,6 @@ use Rattle.streaming.specs.Stream.{Stream, startOf}
 use Rattle.streaming.specs.Calls.{Called, stepOf, finishOf}
 
 -- ---- the state
-
-unfoldable pub statusOf : Status → S.Status
-statusOf U.Open = S.live
-statusOf (U.Shut c) = S.shut (number c)
-statusOf U.Done = S.done
 
 unfoldable pub statusAs : S.Status → Status
 statusAs S.live = U.Open

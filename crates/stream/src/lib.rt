@@ -1,3 +1,2 @@
 // The reader's stream by value: start, step and finish.
 pub mod reader; // reader.rt: the state and its methods
-mod given; // given.rt: the test of a state

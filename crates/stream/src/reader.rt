@@ -1,5 +1,4 @@
 // The reader's stream: a state that goes in and comes back by value, with what each call tells.
-use crate::given::given;
 use answer::Count;
 use answer::Kind;
 use answer::Outcome;
@@ -9,16 +8,11 @@ use engine::piece::Why;
 use engine::rule::Cause;
 use engine::rule::Core;
 use engine::rule::End;
+use states::Status;
+use states::given;
 ghost use mathlib.Core.Path.{_≡_};
 ghost use Rattle.stream.specs.Stepped.{begun, stepped, written, finished, kindBy};
 ghost use Rattle.stream.specs.Packed.{untold, asStep, asEnd};
-
-// Whether a stream goes on, has refused, or is finished. A refusal's place is not kept: it is the number of bytes taken.
-pub enum Status {
-    Open,
-    Shut(Cause),
-    Done,
-}
 
 pub struct Reader {
     pub alphabet: usize,

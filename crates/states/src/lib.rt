@@ -1,5 +1,4 @@
 // "Answer 9 is given exactly when no sequence of calls from a start gives that state": the test of a state.
-use crate::reader::Status;
 use engine::choice::chosen;
 use engine::piece::ready;
 use engine::rule::Cause;
@@ -13,7 +12,14 @@ ghost use mathlib.Core.Path.{_≡_};
 ghost use Rattle.reading.specs.Reader as Reader;
 ghost use Rattle.engine.specs.Meaning.{stateOf, number};
 ghost use Rattle.streaming.specs.Given as spec;
-ghost use Rattle.stream.specs.Stepped.{statusOf};
+ghost use Rattle.states.specs.Status.{statusOf};
+
+// Whether a stream goes on, has refused, or is finished. A refusal's place is not kept: it is the number of bytes taken.
+pub enum Status {
+    Open,
+    Shut(Cause),
+    Done,
+}
 
 // Digits and pads are among the bytes taken, and are all of them where none is dropped.
 fn counts_fit(options: usize, k: Core) -> bool
@@ -187,7 +193,7 @@ fn status_fits(alphabet: usize, options: usize, k: Core, status: Status) -> bool
 }
 
 // Calls give the state.
-pub(crate) fn given(alphabet: usize, options: usize, k: Core, status: Status) -> bool
+pub fn given(alphabet: usize, options: usize, k: Core, status: Status) -> bool
     ensures { λ r. ⌜ r ≡ spec.given (record { alphabet = alphabet; options = options; state = stateOf k; status = statusOf status }) ⌝ }
 {
     if readable(alphabet, options, k) {

@@ -1,10 +1,10 @@
--- `given::pads_fit`: at each return the tests that led there decide. Assumes nothing.
+-- `pads_fit`: at each return the tests that led there decide. Assumes nothing.
 use borrow.Author.Tests.{le-leb, lt-leb, eq-eqb, ne-eqb}
 use Rattle.engine.proofs.States.{wants-is}
 use Rattle.streaming.specs.Given.{padsFit}
 use borrow.Author.Needs.{needs}
-use Rattle.stream.proofs.given.pads_fit.Statement.{statement}
-use Rattle.stream.proofs.given.pads_fit.Tie as tie
+use Rattle.states.proofs.pads_fit.Statement.{statement}
+use Rattle.states.proofs.pads_fit.Tie as tie
 
 wants-requires : tie.Need-wants-requires
 wants-requires c κs = search needs

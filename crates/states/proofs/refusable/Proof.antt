@@ -1,9 +1,9 @@
--- `given::refusable`: by the cause. Assumes nothing.
+-- `refusable`: by the cause. Assumes nothing.
 use Rattle.engine.proofs.States.{long-number, foreign-number, pad-number, spare-number, after-number, short-number}
 use Rattle.streaming.specs.Given.{refusable}
 use borrow.Author.Needs.{needs}
-use Rattle.stream.proofs.given.refusable.Statement.{statement}
-use Rattle.stream.proofs.given.refusable.Tie as tie
+use Rattle.states.proofs.refusable.Statement.{statement}
+use Rattle.states.proofs.refusable.Tie as tie
 
 enum-told : tie.Need-enum-told
 enum-told c = search needs

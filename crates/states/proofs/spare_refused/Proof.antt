@@ -1,10 +1,10 @@
--- `given::spare_refused`: at each return the tests that led there decide. Assumes nothing.
+-- `spare_refused`: at each return the tests that led there decide. Assumes nothing.
 use mathlib.Core.Path.{sym, _∙_}
 use borrow.Author.Tests.{lt-ltb, le-ltb}
 use Rattle.streaming.specs.Given.{refusable}
 use borrow.Author.Needs.{needs}
-use Rattle.stream.proofs.given.spare_refused.Statement.{statement}
-use Rattle.stream.proofs.given.spare_refused.Tie as tie
+use Rattle.states.proofs.spare_refused.Statement.{statement}
+use Rattle.states.proofs.spare_refused.Tie as tie
 
 spare-left-requires : tie.Need-spare-left-requires
 spare-left-requires c κs = search needs

@@ -1,11 +1,11 @@
--- `given::pad_misplaced`: at each return the tests that led there decide. Assumes nothing.
+-- `pad_misplaced`: at each return the tests that led there decide. Assumes nothing.
 use mathlib.Core.Path.{sym, _∙_}
 use borrow.Author.Tests.{lt-ltb, le-ltb, eq-eqb, ne-eqb}
 use Rattle.engine.proofs.States.{wants-is}
 use Rattle.streaming.specs.Given.{refusable}
 use borrow.Author.Needs.{needs}
-use Rattle.stream.proofs.given.pad_misplaced.Statement.{statement}
-use Rattle.stream.proofs.given.pad_misplaced.Tie as tie
+use Rattle.states.proofs.pad_misplaced.Statement.{statement}
+use Rattle.states.proofs.pad_misplaced.Tie as tie
 
 limit-requires : tie.Need-limit-requires
 limit-requires c κs = search needs

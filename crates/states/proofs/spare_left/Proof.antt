@@ -1,12 +1,12 @@
--- `given::spare_left`: at each return the tests that led there decide. Assumes nothing.
+-- `spare_left`: at each return the tests that led there decide. Assumes nothing.
 use mathlib.Core.Path.{sym, _∙_}
 use borrow.Author.Tests.{eq-eqb, ne-eqb}
 use Rattle.engine.proofs.States.{wants-is}
 use Rattle.streaming.specs.Given.{spareLeft}
-use Rattle.stream.proofs.Tests.{some-is, none-is}
+use Rattle.states.proofs.Tests.{some-is, none-is}
 use borrow.Author.Needs.{needs}
-use Rattle.stream.proofs.given.spare_left.Statement.{statement}
-use Rattle.stream.proofs.given.spare_left.Tie as tie
+use Rattle.states.proofs.spare_left.Statement.{statement}
+use Rattle.states.proofs.spare_left.Tie as tie
 
 returns : tie.Need-returns
 unfolding spareLeft

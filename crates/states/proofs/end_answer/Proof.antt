@@ -1,9 +1,9 @@
--- `given::end_answer`: the engine's end by its number. Assumes nothing.
+-- `end_answer`: the engine's end by its number. Assumes nothing.
 use mathlib.Core.Path.{sym, ap, _∙_}
 use Rattle.engine.specs.Meaning.{endOf}
 use borrow.Author.Needs.{needs}
-use Rattle.stream.proofs.given.end_answer.Statement.{statement}
-use Rattle.stream.proofs.given.end_answer.Tie as tie
+use Rattle.states.proofs.end_answer.Statement.{statement}
+use Rattle.states.proofs.end_answer.Tie as tie
 
 ending-requires : tie.Need-ending-requires
 ending-requires c κs = search needs

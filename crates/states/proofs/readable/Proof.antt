@@ -1,9 +1,9 @@
--- `given::readable`: a ready state whose counts and pads fit. Assumes nothing.
+-- `readable`: a ready state whose counts and pads fit. Assumes nothing.
 use mathlib.Core.Path.{sym, _∙_}
-use Rattle.stream.proofs.Tests.{unready, ready-readable}
+use Rattle.states.proofs.Tests.{unready, ready-readable}
 use borrow.Author.Needs.{needs}
-use Rattle.stream.proofs.given.readable.Statement.{statement}
-use Rattle.stream.proofs.given.readable.Tie as tie
+use Rattle.states.proofs.readable.Statement.{statement}
+use Rattle.states.proofs.readable.Tie as tie
 
 ready-requires : tie.Need-ready-requires
 ready-requires c κs = search needs

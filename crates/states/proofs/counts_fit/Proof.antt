@@ -1,10 +1,10 @@
--- `given::counts_fit`: at each return the tests that led there decide. Assumes nothing.
+-- `counts_fit`: at each return the tests that led there decide. Assumes nothing.
 use borrow.Author.Tests.{le-leb, lt-leb}
 use Rattle.streaming.specs.Given.{countsFit}
-use Rattle.stream.proofs.Tests.{rest-is, rest-none, rest-less, rest-more, lines-by, blank-by}
+use Rattle.states.proofs.Tests.{rest-is, rest-none, rest-less, rest-more, lines-by, blank-by}
 use borrow.Author.Needs.{needs}
-use Rattle.stream.proofs.given.counts_fit.Statement.{statement}
-use Rattle.stream.proofs.given.counts_fit.Tie as tie
+use Rattle.states.proofs.counts_fit.Statement.{statement}
+use Rattle.states.proofs.counts_fit.Tie as tie
 
 limit-requires : tie.Need-limit-requires
 limit-requires c κs = search needs

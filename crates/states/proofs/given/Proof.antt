@@ -1,9 +1,9 @@
--- `given::given`: the state and then the status. Assumes nothing.
+-- `given`: the state and then the status. Assumes nothing.
 use mathlib.Core.Path.{sym, _∙_}
 use Rattle.streaming.specs.Given.{given}
 use borrow.Author.Needs.{needs}
-use Rattle.stream.proofs.given.given.Statement.{statement}
-use Rattle.stream.proofs.given.given.Tie as tie
+use Rattle.states.proofs.given.Statement.{statement}
+use Rattle.states.proofs.given.Tie as tie
 
 readable-requires : tie.Need-readable-requires
 readable-requires c κs = search needs

@@ -1,9 +1,9 @@
--- `given::number_of`: by the cause. Assumes nothing.
+-- `number_of`: by the cause. Assumes nothing.
 use mathlib.Core.Path.{sym}
 use Rattle.engine.proofs.States.{long-number, foreign-number, pad-number, spare-number, after-number, short-number}
 use borrow.Author.Needs.{needs}
-use Rattle.stream.proofs.given.number_of.Statement.{statement}
-use Rattle.stream.proofs.given.number_of.Tie as tie
+use Rattle.states.proofs.number_of.Statement.{statement}
+use Rattle.states.proofs.number_of.Tie as tie
 
 enum-told : tie.Need-enum-told
 enum-told c = search needs

@@ -1,9 +1,9 @@
--- `given::after_pad`: the limit, and then the pads. Assumes nothing.
+-- `after_pad`: the limit, and then the pads. Assumes nothing.
 use borrow.Author.Tests.{lt-ltb, le-ltb}
 use Rattle.streaming.specs.Given.{refusable}
 use borrow.Author.Needs.{needs}
-use Rattle.stream.proofs.given.after_pad.Statement.{statement}
-use Rattle.stream.proofs.given.after_pad.Tie as tie
+use Rattle.states.proofs.after_pad.Statement.{statement}
+use Rattle.states.proofs.after_pad.Tie as tie
 
 limit-requires : tie.Need-limit-requires
 limit-requires c κs = search needs

@@ -1,9 +1,9 @@
--- `given::status_fits`: by the status. Assumes nothing.
+-- `status_fits`: by the status. Assumes nothing.
 use Rattle.streaming.specs.Given.{statusFits}
-use Rattle.stream.specs.Stepped.{statusOf}
+use Rattle.states.specs.Status.{statusOf}
 use borrow.Author.Needs.{needs}
-use Rattle.stream.proofs.given.status_fits.Statement.{statement}
-use Rattle.stream.proofs.given.status_fits.Tie as tie
+use Rattle.states.proofs.status_fits.Statement.{statement}
+use Rattle.states.proofs.status_fits.Tie as tie
 
 enum-told : tie.Need-enum-told
 enum-told c = search needs
