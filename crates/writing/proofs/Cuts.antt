@@ -1,4 +1,4 @@
--- What `split` answers at a byte is what the definition says that the byte completes and keeps. Shown over the width. Assumes nothing.
+-- What a byte is cut into is what the definition says that it completes and keeps, with loose bits too. Shown over the width. Assumes nothing.
 use Prim.Native.Nat.{ℕ, _+_, _-_, _*_, _/_, _%_, _^_, _<_, _≤_}
 use mathlib.Core.Path.{_≡_, refl, sym, ap, _∙_, subst}
 use mathlib.Core.Bool.{Bool, true, false}
@@ -14,7 +14,8 @@ use Rattle.alphabet.specs.declared.regroup.Cut.{Cut}
 use Rattle.alphabet.specs.declared.regroup.Cut.the-variants.{One, Two}
 use Rattle.alphabet.proofs.Runs.{bits-join, joined-lt}
 use Rattle.alphabet.proofs.Cutting.{pack-none, pack-bits, drop-bits, drop-no-run}
-use Rattle.alphabet.proofs.RegroupLaws.{rest-lt, cut-first-lt, cut-one, cut-second-lt, cut-two}
+use Rattle.alphabet.proofs.RegroupLaws.{rest-lt, cut-one, cut-two}
+use Rattle.alphabet.proofs.LooseCuts.{cut-one-loose, cut-two-loose}
 use Rattle.writing.specs.Machine.{waiting, fullRuns, completes, keeps}
 
 -- after n bytes a byte completes the digits ds; r and held are the bits held after it
@@ -25,10 +26,10 @@ pub record CutAs (b n held c : ℕ) (ds : List ℕ) (r left : ℕ) : Type 0 wher
   pub bits : 8 * (n + 1) % b ≡ r
   pub small : left < 2 ^ r
 
--- what an answer of `split` says of its digits
-abbrev pub Says : ℕ → ℕ → ℕ → ℕ → Cut → Type 0
-Says b n held c (One v left) = CutAs b n held c (v ∷ []) (8 * n % b + 8 - b) left × (v < 2 ^ b)
-Says b n held c (Two v w left) = CutAs b n held c (v ∷ w ∷ []) (8 * n % b + 8 - b - b) left × (v < 2 ^ b) × (w < 2 ^ b) × (b + b ≤ 8 * n % b + 8)
+-- what a cut says of its digits
+abbrev Says : ℕ → ℕ → ℕ → ℕ → Cut → Type 0
+Says b n held c (One v left) = CutAs b n held c (v ∷ []) (8 * n % b + 8 - b) left
+Says b n held c (Two v w left) = CutAs b n held c (v ∷ w ∷ []) (8 * n % b + 8 - b - b) left
 
 module _ (b n : ℕ) {held c : ℕ} (low : 4 ≤ b) (high : b ≤ 6) (small : held < 2 ^ (8 * n % b)) (byte : c < 256) where
   few : 8 * n % b < b
@@ -90,13 +91,34 @@ module _ (b n : ℕ) {held c : ℕ} (low : 4 ≤ b) (high : b ≤ 6) (small : he
           let m : ℕ = 8 * n % b + 8 - b in
           let l : m < b = ltb-true m b t in
           let e : 8 * n % b + 8 ≡ b + m = omega arith in
-          rw (cut-one b (8 * n % b) low high few small byte m e l) (cut-as-one m e l, cut-first-lt b (8 * n % b) low high few small byte m e)
+          rw (cut-one b (8 * n % b) low high few small byte m e l) (cut-as-one m e l)
       go false t =
           let l : b ≤ 8 * n % b + 8 - b = ltb-false (8 * n % b + 8 - b) b t in
           let m : ℕ = 8 * n % b + 8 - b - b in
           let e : 8 * n % b + 8 ≡ b + (b + m) = omega arith in
-          rw (cut-two b (8 * n % b) low high few small byte m e)
-          (cut-as-two m e (omega (arith, few)), cut-first-lt b (8 * n % b) low high few small byte (b + m) e, cut-second-lt b (8 * n % b) low high few small byte m, omega arith)
+          rw (cut-two b (8 * n % b) low high few small byte m e) (cut-as-two m e (omega (arith, few)))
 
-  pub says-of : (x : Cut) → x ≡ cutUp b (8 * n % b) held c → Says b n held c x
-  says-of x e = subst (Says b n held c) (sym e) says
+  says-of : (x : Cut) → cutUp b (8 * n % b) held c ≡ x → Says b n held c x
+  says-of x e = subst (Says b n held c) e says
+
+-- loose bits: of h the r low ones are held after n bytes
+module _ (b n r h : ℕ) {c : ℕ} (low : 4 ≤ b) (high : b ≤ 6) (few-is : r ≡ 8 * n % b) (byte : c < 256) where
+  loose-few : r < b
+  loose-few = rw few-is (mod-lt (8 * n) (omega arith))
+
+  loose-says : (x : Cut) → cutUp b r (h % 2 ^ r) c ≡ x → Says b n (h % 2 ^ r) c x
+  loose-says x e = says-of b n low high (rw (← few-is) (rest-lt r h)) byte x (rw (← few-is) e)
+
+  pub says-one : (k : ℕ) → k ≡ r + 8 - b → k < b
+      → CutAs b n (h % 2 ^ r) c ((h * 256 + c) / 2 ^ k % 2 ^ b ∷ []) k ((h * 256 + c) % 256 % 2 ^ k)
+  says-one k e l =
+      let q : 8 * n % b + 8 - b ≡ k = rw (← few-is) (sym e) in
+      rw q at (loose-says (One ((h * 256 + c) / 2 ^ k % 2 ^ b) ((h * 256 + c) % 256 % 2 ^ k)) (cut-one-loose b r h low high loose-few byte k (omega arith) l))
+
+  pub says-two : (k m : ℕ) → k ≡ r + 8 - b → b ≤ k → m ≡ k - b
+      → CutAs b n (h % 2 ^ r) c ((h * 256 + c) / 2 ^ k % 2 ^ b ∷ (h * 256 + c) / 2 ^ m % 2 ^ b ∷ []) m ((h * 256 + c) % 256 % 2 ^ m)
+  says-two k m e l f =
+      let j : b + m ≡ k = omega arith in
+      let q : 8 * n % b + 8 - b - b ≡ m = rw (← few-is, ← e) (sym f) in
+      rw q at
+      (loose-says (Two ((h * 256 + c) / 2 ^ k % 2 ^ b) ((h * 256 + c) / 2 ^ m % 2 ^ b) ((h * 256 + c) % 256 % 2 ^ m)) (rw j at (cut-two-loose b r h low high loose-few byte m (omega arith))))

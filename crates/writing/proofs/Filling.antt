@@ -10,7 +10,7 @@ use lib.ListN.{length, take, drop, set, length-set, take-append-drop}
 use lib.Seq.{take-suc-set, drop-set-lt, length-take-le, drop-drop}
 use Rattle.writing.specs.declared.Why.{Why}
 use Rattle.writing.specs.Machine.{Run, after, stop}
-use Rattle.writing.specs.Contracts.{RanAs}
+use Rattle.writing.specs.Contracts.{WentAs}
 
 pub record Filling (R : Run) (out₀ out : List ℕ) (i n : ℕ) (todo : Run) : Type 0 where
   pub room : n ≤ length out₀
@@ -37,13 +37,12 @@ module _ {R : Run} {out₀ out : List ℕ} {i n : ℕ} {todo : Run} (f : Filling
   took-length : length (take n out) ≡ n
   took-length = length-take-le n out (omega (arith, f .long, f .room))
 
-  -- the run stops: its answer and the buffer are what the definition gives
-  pub fill-stop : {held : ℕ} {w : Why} → todo ≡ stop held w → RanAs R (record { held = held; why = w; taken = i; written = n }) out₀ out
+  -- the run stops: where it came to and the buffer are what the definition gives
+  pub fill-stop : {held : ℕ} {w : Why} → todo ≡ stop held w → WentAs R (record { held = held; taken = i; written = n }) out₀ out
   fill-stop e =
       rw (f .same, e)
       (record {
         held = refl;
-        why = refl;
         taken = omega arith;
         written = simp (append-nil, took-length);
         buffer = simp (append-nil, took-length) (sym (take-append-drop n out) ∙ ap (λ (l : List ℕ). take n out ++ l) (f .rest));

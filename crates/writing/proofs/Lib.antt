@@ -5,6 +5,7 @@ pub mod Lent
 pub mod Cuts
 pub mod Filling
 pub mod Going
+pub mod CutRuns
 pub mod EndingLaws
 pub mod SoundLaws
 pub mod Moments

@@ -1,13 +1,16 @@
 -- What the writer's functions promise: the equation that determines the result and the buffer at exit, and what 01 says of them. Assumes nothing.
 use Prim.Native.Nat.{ℕ, _+_, _*_, _%_, _^_, _<_, _≤_}
 use mathlib.Core.Path.{_≡_}
+use mathlib.Core.Bool.{cond}
 use mathlib.Core.List.{List, _++_}
+use lib.Dec.{ltb}
 use lib.ListN.{length, take}
 use Rattle.answer.specs.declared.Kind.the-variants as K
 use Rattle.answer.specs.declared.Outcome.{Outcome}
 use Rattle.answer.specs.declared.Outcome.the-variants as O
 use Rattle.answer.specs.Told.{told}
 use Rattle.alphabet.specs.Alphabet.{bits}
+use Rattle.alphabet.specs.Table.{digitEntries}
 use Rattle.alphabet.specs.Written.{written, writtenLength}
 use Rattle.reading.specs.Limit.{limit}
 use Rattle.writing.specs.Front.{ending}
@@ -21,6 +24,7 @@ use Rattle.writing.specs.declared.Why.{Why}
 use Rattle.writing.specs.declared.Why.the-variants as W
 use Rattle.writing.specs.declared.Status.{Status}
 use Rattle.writing.specs.declared.Status.the-variants as U
+use Rattle.writing.specs.declared.Went.{Went}
 use Rattle.writing.specs.declared.Ran.{Ran}
 use Rattle.writing.specs.declared.Writer.{Writer}
 use Rattle.writing.specs.declared.Stepped.{Stepped}
@@ -33,7 +37,29 @@ pub record Sound (a n held : ℕ) : Type 0 where
   pub within : writtenLength a n ≤ limit
   pub small : held < 2 ^ (8 * n % bits a)
 
--- a run's answer r, and the buffer o, o' at entry and exit, are what the definition gives
+-- what the loop asks: the table, the width, numbers that a source gives, and a piece that keeps within the limit
+pub record Spells (t : List ℕ) (a b n held : ℕ) (piece : List ℕ) : Type 0 where
+  pub table : t ≡ digitEntries
+  pub width : b ≡ bits a
+  pub sound : Sound a n held
+  pub within : writtenLength a (n + length piece) ≤ limit
+
+-- of loose bits h the few low ones are held
+abbrev pub leaving : ℕ → ℕ → ℕ → ℕ → Went
+leaving h few n m = record { held = h % 2 ^ few; taken = n; written = m }
+
+-- where a run came to, and the buffer o, o' at entry and exit, are what the definition gives
+pub record WentAs (R : Run) (r : Went) (o o' : List ℕ) : Type 0 where
+  pub held : r .held ≡ R .held
+  pub taken : r .taken ≡ R .took
+  pub written : r .written ≡ length (R .wrote)
+  pub buffer : o' ≡ filled (R .wrote) o
+
+-- why a run stopped that took n bytes of a piece of so many, cut at the limit
+unfoldable pub whyAt : ℕ → ℕ → ℕ → Why
+whyAt n end len = cond (ltb n end) W.Room (cond (ltb end len) W.Limit W.All)
+
+-- the same with why it stopped
 pub record RanAs (R : Run) (r : Ran) (o o' : List ℕ) : Type 0 where
   pub held : r .held ≡ R .held
   pub why : r .why ≡ R .why
