@@ -18,5 +18,4 @@ pub mod Answers
 pub mod Determined
 pub mod Steps
 pub mod SharedStart
-pub mod MeasureLaws
 pub mod StepShort

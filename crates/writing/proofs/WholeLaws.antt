@@ -1,75 +1,114 @@
 -- What the whole writer promises, case by case as its code goes. Assumes nothing.
 use Prim.Native.Nat.{ℕ, _+_, _*_, _/_, _<_, _≤_}
 use mathlib.Core.Path.{_≡_, refl, sym, ap, _∙_}
-use mathlib.Core.List.{List}
+use mathlib.Core.Bool.{Bool, true, false, cond}
+use mathlib.Core.List.{List, []}
 use native.Mathlib.Omega.{arith}
+use lib.Dec.{eqb, ltb}
 use lib.ListN.{length, drop, length-append}
 use lib.Seq.{paste, take-length, take-at, drop-append-add, drop-drop}
-use borrow.Author.Tests.{lt-ltb, le-ltb}
-use Rattle.answer.specs.declared.Kind.the-variants as K
+use borrow.Author.Tests.{ltb-true, ltb-false}
 use Rattle.answer.specs.declared.Outcome.{Outcome}
 use Rattle.answer.specs.declared.Outcome.the-variants as O
-use Rattle.answer.specs.Told.{told}
-use Rattle.answer.proofs.ToldCases.{told-accepted, told-choice, told-long, told-room}
+use Rattle.answer.specs.declared.Kind.{Kind}
+use Rattle.answer.specs.declared.Place.{Place}
+use Rattle.answer.specs.declared.Count.{Count}
+use Rattle.answer.specs.Told.{Told, told}
+use Rattle.answer.proofs.ToldCases.{told-accepted, told-refused}
+use Rattle.answer.proofs.ToldLaws.{refusal}
 use Rattle.alphabet.specs.Alphabet.{bits}
 use Rattle.alphabet.specs.Written.{written, writtenLength}
 use Rattle.alphabet.proofs.Lengths.{written-length}
 use Rattle.reading.specs.Limit.{limit}
+use Rattle.writing.specs.declared.measure.Size.{Size}
+use Rattle.writing.specs.declared.measure.Size.the-variants.{Unknown, TooLong, Needs}
 use Rattle.writing.specs.declared.Ran.{Ran}
 use Rattle.writing.specs.Front.{front, heldOf, ending, rest}
 use Rattle.writing.specs.Machine.{run}
-use Rattle.writing.specs.Stream.{at, count}
 use Rattle.reading.specs.Buffer.{filled}
+use Rattle.writing.specs.Numbers.{numbers}
 use Rattle.writing.specs.Whole.{Wrote, nothing, writeOf}
-use Rattle.writing.specs.Contracts.{Sound, RanAs, WroteAs}
+use Rattle.writing.specs.Contracts.{Sound, RanAs, sizeOf, fittingNumbers, FormFits, WroteAs}
 use Rattle.alphabet.proofs.AlphabetLaws.{bits-low}
 use Rattle.writing.proofs.FrontLaws.{full-flow, front-length, front-rest}
-use Rattle.writing.proofs.LengthLaws.{within-most, beyond-most}
 use Rattle.writing.proofs.EndingLaws.{ending-length}
 use Rattle.writing.proofs.Through.{Through, runs-through}
 
-module _ (a : ℕ) (src o : List ℕ) where
-  write-by : (t : Wrote) (o' : List ℕ) (r : Outcome) → writeOf a src (length o) ≡ t → told r ≡ t .told → o' ≡ filled (t .text) o → WroteAs a src o o' r
-  write-by t o' r q e b = record { answer = rw q e; buffer = rw q b }
+-- ---- the answer by the size of the form
 
-  pub wrote-choice : 5 < a → WroteAs a src o o (O.Refused K.Choice (count 0))
+abbrev bySize : Size → ℕ → Told
+bySize Unknown room = numbers 1 0 0
+bySize TooLong room = numbers 2 0 0
+bySize (Needs need) room = fittingNumbers need room
+
+-- what the three tests pick: of the alphabet, of the limit, of the room
+abbrev picked : Bool → Bool → Bool → List ℕ → Wrote
+picked x y z text =
+    cond x
+    (cond y (nothing 2 0)
+    (cond z (nothing 3 (length text))
+    (record { told = numbers 0 (length text) (length text); text = text })))
+    (nothing 1 0)
+
+-- an answer other than 0 goes with no text
+picked-none : (x y z : Bool) (text : List ℕ) → eqb (picked x y z text .told .answer) 0 ≡ false → picked x y z text .text ≡ []
+picked-none true true z text q = refl
+picked-none true false true text q = refl
+picked-none true false false text q = let w : _≡_ {A = ℕ} 0 1 = ap (λ (t : Bool). cond t 0 1) q in absurd (omega arith)
+picked-none false y z text q = refl
+
+-- answer 0 goes with the text, past all three
+picked-all : (x y z : Bool) (text : List ℕ) → picked x y z text .told .answer ≡ 0 → (x ≡ true) × (y ≡ false) × (z ≡ false) × (picked x y z text .text ≡ text)
+picked-all true true z text q = absurd (omega arith)
+picked-all true false true text q = absurd (omega arith)
+picked-all true false false text q = (refl, refl, refl, refl)
+picked-all false y z text q = absurd (omega arith)
+
+module _ (a : ℕ) (src : List ℕ) (room : ℕ) where
+  answer-by-size : writeOf a src room .told ≡ bySize (sizeOf a (length src)) room
+  unfolding writeOf sizeOf fittingNumbers
+  answer-by-size = rw (← written-length a src) (go (ltb a 6) (ltb limit (length (written a src))) (ltb room (length (written a src))) refl)
+    where
+      go : (x y z : Bool) → ltb room (length (written a src)) ≡ z → picked x y z (written a src) .told ≡ bySize (cond x (cond y TooLong (Needs (length (written a src)))) Unknown) room
+      go true true z e = refl
+      go true false true e = rw e
+      go true false false e = rw e
+      go false y z e = refl
+
+  pub told-by-size : {s : Size} → sizeOf a (length src) ≡ s → bySize s room ≡ writeOf a src room .told
+  told-by-size e = sym (answer-by-size ∙ ap (λ (s : Size). bySize s room) e)
+
+  -- an answer 0 is given exactly where the form fits, and else nothing is written
+  accepted : writeOf a src room .told .answer ≡ 0 → FormFits a src room × (writeOf a src room .text ≡ written a src)
   unfolding writeOf
-  wrote-choice l = write-by (nothing 1 0) o (O.Refused K.Choice (count 0)) (rw (le-ltb a 6 (omega arith))) (told-choice (count 0)) refl
+  accepted q =
+      let t = picked-all (ltb a 6) (ltb limit (length (written a src))) (ltb room (length (written a src))) (written a src) q in (
+        record {
+          known = ltb-true a 6 (t .0);
+          within = rw (← written-length a src) (ltb-false limit (length (written a src)) (t .1));
+          roomy = rw (← written-length a src) (ltb-false room (length (written a src)) (t .2));
+        },
+        t .3,
+      )
 
-  -- b and most as the code has them
-  module _ (h : a ≤ 5) where
-    known : a < 6
-    known = omega arith
+  refused : eqb (writeOf a src room .told .answer) 0 ≡ false → writeOf a src room .text ≡ []
+  unfolding writeOf
+  refused q = picked-none (ltb a 6) (ltb limit (length (written a src))) (ltb room (length (written a src))) (written a src) q
 
-    pub wrote-long : {b most : ℕ} → b ≡ bits a → most ≡ b * limit / 8 → most < length src → WroteAs a src o o (O.Refused (K.TooLong (at 0)) (count 0))
-    unfolding writeOf
-    wrote-long {b} {most} eb em l =
-        let k : limit < length (written a src) = rw (written-length a src) (beyond-most a known (length src) (rw (← eb, ← em) l)) in
-        write-by (nothing 2 0) o (O.Refused (K.TooLong (at 0)) (count 0)) (rw (lt-ltb a 6 known, lt-ltb limit (length (written a src)) k)) (told-long (at 0) (count 0)) refl
+module _ (a : ℕ) (src o : List ℕ) {r : Outcome} (e : told r ≡ writeOf a src (length o) .told) where
+  pub accepted-fits : (p : Place) (q : Count) → r ≡ O.Accepted p q → FormFits a src (length o)
+  accepted-fits p q f = accepted a src (length o) (ap (λ (t : Told). t .answer) (sym e ∙ ap told f ∙ told-accepted p q)) .0
 
-    pub source-within : {b most : ℕ} → b ≡ bits a → most ≡ b * limit / 8 → length src ≤ most → writtenLength a (length src) ≤ limit
-    source-within {b} {most} eb em l = within-most a known (length src) .1 (rw (← eb, ← em) l)
+  pub wrote-all : (p : Place) (q : Count) → r ≡ O.Accepted p q → {o' : List ℕ} → o' ≡ filled (written a src) o → WroteAs a src o o' r
+  wrote-all p q f b =
+      let t : writeOf a src (length o) .text ≡ written a src = accepted a src (length o) (ap (λ (t : Told). t .answer) (sym e ∙ ap told f ∙ told-accepted p q)) .1 in
+      record { answer = e; buffer = rw t b }
 
-    module _ {need : ℕ} (w : writtenLength a (length src) ≤ limit) (e : need ≡ writtenLength a (length src)) where
-      form : need ≡ length (written a src)
-      form = e ∙ sym (written-length a src)
-
-      in-limit : length (written a src) ≤ limit
-      in-limit = rw (written-length a src) w
-
-      pub wrote-short : length o < need → WroteAs a src o o (O.Refused (K.NoRoom (at 0)) (count need))
-      unfolding writeOf
-      wrote-short l =
-          write-by (nothing 3 (length (written a src))) o (O.Refused (K.NoRoom (at 0)) (count need))
-          (rw (lt-ltb a 6 known, le-ltb limit (length (written a src)) in-limit, lt-ltb (length o) (length (written a src)) (rw form at l)))
-          (rw form (told-room (at 0) (count (length (written a src))))) refl
-
-      pub wrote-all : (o' : List ℕ) → need ≤ length o → o' ≡ filled (written a src) o → WroteAs a src o o' (O.Accepted (at need) (count need))
-      unfolding writeOf
-      wrote-all o' l b =
-          let n : ℕ = length (written a src) in
-          write-by (record { told = record { answer = 0; position = n; count = n }; text = written a src }) o' (O.Accepted (at need) (count need))
-          (rw (lt-ltb a 6 known, le-ltb limit n in-limit, le-ltb (length o) n (rw form at l))) (rw form (told-accepted (at n) (count n))) b
+  pub wrote-none : (k : Kind) (q : Count) → r ≡ O.Refused k q → WroteAs a src o o r
+  wrote-none k q f =
+      let t : writeOf a src (length o) .text ≡ [] =
+      refused a src (length o) (ap (λ (t : Told). eqb (t .answer) 0) (sym e ∙ ap told f ∙ told-refused k q) ∙ refusal k) in
+      record { answer = e; buffer = rw t }
 
 -- ---- the front laid by the run, and the ending after it
 

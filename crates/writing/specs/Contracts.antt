@@ -9,7 +9,7 @@ use Rattle.answer.specs.declared.Kind.{Kind}
 use Rattle.answer.specs.declared.Kind.the-variants as K
 use Rattle.answer.specs.declared.Outcome.{Outcome}
 use Rattle.answer.specs.declared.Outcome.the-variants as O
-use Rattle.answer.specs.Told.{told}
+use Rattle.answer.specs.Told.{Told, told}
 use Rattle.alphabet.specs.Alphabet.{bits}
 use Rattle.alphabet.specs.Table.{digitEntries}
 use Rattle.alphabet.specs.Written.{written, writtenLength}
@@ -17,10 +17,12 @@ use Rattle.reading.specs.Limit.{limit}
 use Rattle.writing.specs.Front.{ending}
 use Rattle.writing.specs.Machine.{Run}
 use Rattle.writing.specs.Stream.{at, count, soundBy, Turn, close, stepOf, finishOf}
-use Rattle.writing.specs.Numbers.{stepNumbers, finishNumbers}
+use Rattle.writing.specs.Numbers.{numbers, stepNumbers, finishNumbers}
 use Rattle.writing.specs.Moment.{After}
 use Rattle.reading.specs.Buffer.{filled}
 use Rattle.writing.specs.Whole.{writeOf}
+use Rattle.writing.specs.declared.measure.Size.{Size}
+use Rattle.writing.specs.declared.measure.Size.the-variants.{Unknown, TooLong, Needs}
 use Rattle.writing.specs.declared.Why.{Why}
 use Rattle.writing.specs.declared.Why.the-variants as W
 use Rattle.writing.specs.declared.Status.{Status}
@@ -139,6 +141,20 @@ pub record FinishedAs (s : Writer) (o o' : List ℕ) (r : Stepped) : Type 0 wher
   pub moment : (src text : List ℕ) → After s src text → After (r .state) src (text ++ handedOut r o')
 
 -- ---- the whole call
+
+-- the length of a written form, where there is one within the limit
+unfoldable pub sizeOf : ℕ → ℕ → Size
+sizeOf a n = cond (ltb a 6) (cond (ltb limit (writtenLength a n)) TooLong (Needs (writtenLength a n))) Unknown
+
+-- 3 with the needed count, or all of it
+unfoldable pub fittingNumbers : ℕ → ℕ → Told
+fittingNumbers need room = cond (ltb room need) (numbers 3 0 need) (numbers 0 need need)
+
+-- there is a written form within the limit and the room
+pub record FormFits (a : ℕ) (src : List ℕ) (room : ℕ) : Type 0 where
+  pub known : a < 6
+  pub within : writtenLength a (length src) ≤ limit
+  pub roomy : writtenLength a (length src) ≤ room
 
 pub record WroteAs (a : ℕ) (src o o' : List ℕ) (r : Outcome) : Type 0 where
   pub answer : told r ≡ writeOf a src (length o) .told
