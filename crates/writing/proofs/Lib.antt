@@ -1,17 +1,10 @@
-pub mod FrontLaws
-pub mod LengthLaws
-pub mod RunLaws
 pub mod Lent
-pub mod Cuts
 pub mod Filling
 pub mod Going
-pub mod CutRuns
-pub mod EndingLaws
 pub mod SoundLaws
 pub mod Moments
 pub mod NumberLaws
 pub mod Promises
-pub mod Through
 pub mod WholeLaws
 pub mod Reaching
 pub mod Answers
@@ -19,3 +12,4 @@ pub mod Determined
 pub mod Steps
 pub mod SharedStart
 pub mod StepShort
+pub mod CutRan

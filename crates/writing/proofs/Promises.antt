@@ -13,21 +13,21 @@ use Rattle.answer.specs.declared.Kind.the-variants as K
 use Rattle.answer.specs.declared.Outcome.the-variants as O
 use Rattle.answer.specs.Told.{Told, told}
 use Rattle.answer.proofs.ToldCases.{told-accepted, told-refused}
-use Rattle.writing.specs.declared.Why.{Why}
-use Rattle.writing.specs.declared.Why.the-variants as W
+use Rattle.spelling.specs.declared.Why.{Why}
+use Rattle.spelling.specs.declared.Why.the-variants as W
 use Rattle.writing.specs.declared.Status.{Status}
 use Rattle.writing.specs.declared.Status.the-variants as U
 use Rattle.writing.specs.declared.Ran.{Ran}
 use Rattle.writing.specs.declared.Writer.{Writer}
 use Rattle.writing.specs.declared.Stepped.{Stepped}
-use Rattle.writing.specs.Front.{ending}
-use Rattle.writing.specs.Machine.{Run}
+use Rattle.spelling.specs.Front.{ending}
+use Rattle.spelling.specs.Machine.{Run}
 use Rattle.writing.specs.Stream.{at, count, soundBy, sound, Turn, unmoved, closed, byWhy, close, byStatus, inOrder, ranOf, stepOf, finishOf}
 use Rattle.reading.specs.Buffer.{filled}
 use Rattle.writing.specs.Contracts.{RanAs, goesOn, standing, standsBefore, given, asStepped, statusBy, outcomeBy, ranAs, opened, ClosedAs, handedOut, SteppedAs, FinishedAs}
 use Rattle.writing.proofs.NumberLaws.{step-numbers, finish-numbers}
 use Rattle.writing.proofs.Moments.{step-moment, finish-moment}
-use Rattle.writing.proofs.EndingLaws.{paste-front}
+use Rattle.spelling.proofs.EndingLaws.{paste-front}
 
 -- ---- the count told is the length of the text written
 

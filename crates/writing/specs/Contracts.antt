@@ -9,22 +9,21 @@ use Rattle.answer.specs.declared.Kind.{Kind}
 use Rattle.answer.specs.declared.Kind.the-variants as K
 use Rattle.answer.specs.declared.Outcome.{Outcome}
 use Rattle.answer.specs.declared.Outcome.the-variants as O
-use Rattle.answer.specs.Told.{Told, told}
+use Rattle.answer.specs.Told.{told}
 use Rattle.alphabet.specs.Alphabet.{bits}
 use Rattle.alphabet.specs.Table.{digitEntries}
 use Rattle.alphabet.specs.Written.{written, writtenLength}
 use Rattle.reading.specs.Limit.{limit}
-use Rattle.writing.specs.Front.{ending}
-use Rattle.writing.specs.Machine.{Run}
+use Rattle.spelling.specs.Sound.{Sound}
+use Rattle.spelling.specs.Front.{ending}
+use Rattle.spelling.specs.Machine.{Run}
 use Rattle.writing.specs.Stream.{at, count, soundBy, Turn, close, stepOf, finishOf}
-use Rattle.writing.specs.Numbers.{numbers, stepNumbers, finishNumbers}
+use Rattle.writing.specs.Numbers.{stepNumbers, finishNumbers}
 use Rattle.writing.specs.Moment.{After}
 use Rattle.reading.specs.Buffer.{filled}
-use Rattle.writing.specs.Whole.{writeOf}
-use Rattle.writing.specs.declared.measure.Size.{Size}
-use Rattle.writing.specs.declared.measure.Size.the-variants.{Unknown, TooLong, Needs}
-use Rattle.writing.specs.declared.Why.{Why}
-use Rattle.writing.specs.declared.Why.the-variants as W
+use Rattle.spelling.specs.Whole.{writeOf}
+use Rattle.spelling.specs.declared.Why.{Why}
+use Rattle.spelling.specs.declared.Why.the-variants as W
 use Rattle.writing.specs.declared.Status.{Status}
 use Rattle.writing.specs.declared.Status.the-variants as U
 use Rattle.writing.specs.declared.Went.{Went}
@@ -33,12 +32,6 @@ use Rattle.writing.specs.declared.Writer.{Writer}
 use Rattle.writing.specs.declared.Stepped.{Stepped}
 
 -- ---- between the functions
-
--- numbers that a source gives: an alphabet, a source within the limit, and fewer bits held than a digit has
-pub record Sound (a n held : ℕ) : Type 0 where
-  pub known : a < 6
-  pub within : writtenLength a n ≤ limit
-  pub small : held < 2 ^ (8 * n % bits a)
 
 -- what the loop asks: the table, the width, numbers that a source gives, and a piece that keeps within the limit
 pub record Spells (t : List ℕ) (a b n held : ℕ) (piece : List ℕ) : Type 0 where
@@ -57,10 +50,6 @@ pub record WentAs (R : Run) (r : Went) (o o' : List ℕ) : Type 0 where
   pub taken : r .taken ≡ R .took
   pub written : r .written ≡ length (R .wrote)
   pub buffer : o' ≡ filled (R .wrote) o
-
--- why a run stopped that took n bytes of a piece of so many, cut at the limit
-unfoldable pub whyAt : ℕ → ℕ → ℕ → Why
-whyAt n end len = cond (ltb n end) W.Room (cond (ltb end len) W.Limit W.All)
 
 -- the same with why it stopped
 pub record RanAs (R : Run) (r : Ran) (o o' : List ℕ) : Type 0 where
@@ -141,20 +130,6 @@ pub record FinishedAs (s : Writer) (o o' : List ℕ) (r : Stepped) : Type 0 wher
   pub moment : (src text : List ℕ) → After s src text → After (r .state) src (text ++ handedOut r o')
 
 -- ---- the whole call
-
--- the length of a written form, where there is one within the limit
-unfoldable pub sizeOf : ℕ → ℕ → Size
-sizeOf a n = cond (ltb a 6) (cond (ltb limit (writtenLength a n)) TooLong (Needs (writtenLength a n))) Unknown
-
--- 3 with the needed count, or all of it
-unfoldable pub fittingNumbers : ℕ → ℕ → Told
-fittingNumbers need room = cond (ltb room need) (numbers 3 0 need) (numbers 0 need need)
-
--- there is a written form within the limit and the room
-pub record FormFits (a : ℕ) (src : List ℕ) (room : ℕ) : Type 0 where
-  pub known : a < 6
-  pub within : writtenLength a (length src) ≤ limit
-  pub roomy : writtenLength a (length src) ≤ room
 
 pub record WroteAs (a : ℕ) (src o o' : List ℕ) (r : Outcome) : Type 0 where
   pub answer : told r ≡ writeOf a src (length o) .told

@@ -4,41 +4,33 @@ use super::Start;
 use super::Status;
 use super::Stepped;
 use super::Told;
-use super::Why;
 use super::Writer;
 use answer::Count;
 use answer::Kind;
 use answer::Outcome;
 use answer::Place;
+use spelling::Why;
 ghost use mathlib.Core.Path.{_≡_};
 ghost use Prim.Native.Nat.{_+_, _^_, _<_};
 ghost use Rattle.writing.specs.Stream as stream;
 ghost use Rattle.writing.specs.Stream.{at, count};
 ghost use Rattle.answer.specs.declared.Kind.the-variants as K;
 ghost use Rattle.answer.specs.declared.Outcome.the-variants as O;
-ghost use Rattle.writing.specs.Contracts.{Sound, goesOn, standsBefore, given, asStepped, statusBy, kindBy, outcomeBy, ranAs, opened, SteppedAs, ClosedAs, FinishedAs};
+ghost use Rattle.spelling.specs.Sound.{Sound};
+ghost use Rattle.writing.specs.Contracts.{goesOn, standsBefore, given, asStepped, statusBy, kindBy, outcomeBy, ranAs, opened, SteppedAs, ClosedAs, FinishedAs};
 
 // Whether calls give a state with these numbers; a refusal for the limit stands only after the longest source.
 fn sound(alphabet: usize, taken: usize, held: u8, status: Status) -> bool
     ensures { λ r. ⌜ r ≡ stream.soundBy alphabet taken held status ⌝ }
 {
-    if 5 < alphabet {
-        return false;
+    if spelling::sound(alphabet, taken, held) {
+        return match status {
+            Status::TooLong => taken == spelling::longest(alphabet),
+            Status::Open => true,
+            Status::Done => true,
+        };
     }
-    let b = alphabet::sizes::bits(alphabet);
-    let most = super::longest(b);
-    if most < taken {
-        return false;
-    }
-    let few = 8 * taken % b;
-    if 0 < (held as usize) >> few {
-        return false;
-    }
-    match status {
-        Status::TooLong => taken == most,
-        Status::Open => true,
-        Status::Done => true,
-    }
+    false
 }
 
 // Whether a call goes on: calls give the state, and it is open.

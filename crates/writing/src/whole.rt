@@ -1,11 +1,12 @@
 // The whole writer.
-use crate::measure::measure;
 use answer::Outcome;
+use spelling::measure::measure;
 ghost use mathlib.Core.Path.{_≡_};
 ghost use lib.ListN.{length};
 ghost use Rattle.alphabet.specs.Written.{written};
 ghost use Rattle.reading.specs.Buffer.{filled};
-ghost use Rattle.writing.specs.Contracts.{FormFits, WroteAs};
+ghost use Rattle.spelling.specs.Size.{FormFits};
+ghost use Rattle.writing.specs.Contracts.{WroteAs};
 
 // The written form of a source at the front of a buffer: 1, then 2, then 3 with the needed count.
 pub fn write(alphabet: usize, src: &[u8], out: &mut [u8]) -> Outcome

@@ -3,9 +3,9 @@ use mathlib.Core.Path.{_∙_, sym}
 use native.Mathlib.Omega.{arith}
 use lib.ListN.{length}
 use Rattle.writing.specs.Stream.{ranOf}
-use Rattle.writing.specs.Contracts.{Sound}
-use Rattle.writing.proofs.LengthLaws.{source-small}
-use Rattle.writing.proofs.RunLaws.{run-short}
+use Rattle.spelling.specs.Sound.{Sound}
+use Rattle.spelling.proofs.LengthLaws.{source-small}
+use Rattle.spelling.proofs.RunLaws.{run-short}
 use Rattle.writing.proofs.SoundLaws.{passes}
 use Rattle.writing.proofs.Promises.{went-on, step-barred, step-ran}
 use borrow.Author.Needs.{needs}

@@ -5,9 +5,9 @@ use native.Mathlib.Nat.{zero-add}
 use native.Mathlib.Omega.{arith}
 use lib.ListN.{length}
 use Rattle.alphabet.proofs.AlphabetLaws.{bits-low}
-use Rattle.writing.specs.Front.{ending}
-use Rattle.writing.proofs.LengthLaws.{source-small}
-use Rattle.writing.proofs.EndingLaws.{ending-length, needed}
+use Rattle.spelling.specs.Front.{ending}
+use Rattle.spelling.proofs.LengthLaws.{source-small}
+use Rattle.spelling.proofs.EndingLaws.{ending-length, needed}
 use Rattle.writing.proofs.Promises.{closed-short, closed-done}
 use borrow.Author.Needs.{needs}
 use Rattle.writing.proofs.stream.closed.Statement.{statement}

@@ -1,7 +1,7 @@
 -- The refusal by why a run stopped. Assumes nothing.
 use mathlib.Core.Path.{ap, sym}
 use Prim.Native.Nat.{ℕ}
-use Rattle.writing.specs.declared.Why.{Why}
+use Rattle.spelling.specs.declared.Why.{Why}
 use Rattle.writing.specs.Contracts.{kindBy}
 use borrow.Author.Needs.{needs}
 use Rattle.writing.proofs.stream.kind_by.Statement.{statement}

@@ -2,7 +2,7 @@
 use mathlib.Core.Path.{ap, sym, _∙_}
 use Prim.Native.Nat.{ℕ}
 use Rattle.answer.specs.declared.Outcome.the-variants as O
-use Rattle.writing.specs.declared.Why.{Why}
+use Rattle.spelling.specs.declared.Why.{Why}
 use Rattle.writing.specs.Stream.{count}
 use Rattle.writing.specs.Contracts.{kindBy, outcomeBy}
 use borrow.Author.Needs.{needs}

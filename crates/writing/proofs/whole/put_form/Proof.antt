@@ -1,7 +1,7 @@
 -- The digits that the source fills whole, and the ending after them. Assumes nothing.
 use mathlib.Core.Path.{_∙_}
 use lib.Pow.{pow-pos}
-use Rattle.writing.proofs.LengthLaws.{none-within}
+use Rattle.spelling.proofs.LengthLaws.{none-within}
 use Rattle.writing.proofs.WholeLaws.{source-sound, room-for-ending, whole-laid}
 use borrow.Author.Needs.{needs}
 use Rattle.writing.proofs.whole.put_form.Statement.{statement}
