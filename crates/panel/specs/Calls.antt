@@ -6,7 +6,7 @@ use mathlib.Core.List.{List}
 use lib.ListN.{length}
 use Rattle.reading.specs.Buffer.{filled}
 use Rattle.block.specs.Whole.{readOf, readBytes}
-use Rattle.writing.specs.Whole.{writeOf}
+use Rattle.spelling.specs.Whole.{writeOf}
 
 -- the reader's answer r to the text t, and its buffer: o at entry, o′ at exit
 pub record ReadCall (a opts : ℕ) (t o : List ℕ) (r : ℕ) (o′ : List ℕ) : Type 0 where

@@ -8,7 +8,7 @@ use answer::numbers;
 ghost use mathlib.Core.Path.{_≡_};
 ghost use Rattle.answer.specs.Told.{told};
 ghost use Rattle.block.specs.Whole.{judgeOf, readOf};
-ghost use Rattle.writing.specs.Whole.{writeOf};
+ghost use Rattle.spelling.specs.Whole.{writeOf};
 ghost use Rattle.panel.specs.Calls.{ReadCall, WriteCall};
 
 // ---- the judge
@@ -82,12 +82,12 @@ pub extern "C" fn zem_write(alphabet: u32, src: &[u8], out: &mut [u8]) -> u32
 pub extern "C" fn zem_write_position(alphabet: u32, src: &[u8], room: usize) -> u64
     ensures { λ r. ⌜ r ≡ writeOf alphabet (now (src .entry)) room .told .position ⌝ }
 {
-    numbers::position(writing::measure::measure(alphabet as usize, src, room)) as u64
+    numbers::position(spelling::measure::measure(alphabet as usize, src, room)) as u64
 }
 
 #[no_mangle]
 pub extern "C" fn zem_write_count(alphabet: u32, src: &[u8], room: usize) -> u64
     ensures { λ r. ⌜ r ≡ writeOf alphabet (now (src .entry)) room .told .count ⌝ }
 {
-    numbers::count(writing::measure::measure(alphabet as usize, src, room)) as u64
+    numbers::count(spelling::measure::measure(alphabet as usize, src, room)) as u64
 }

@@ -9,7 +9,7 @@ use Rattle.writing.specs.declared.Writer.{Writer}
 use Rattle.writing.specs.declared.Start.{Start}
 use Rattle.writing.specs.declared.Stepped.{Stepped}
 use Rattle.writing.specs.Stream.{startOf}
-use Rattle.writing.specs.Whole.{writeOf}
+use Rattle.spelling.specs.Whole.{writeOf}
 use Rattle.writing.specs.Contracts.{SteppedAs, FinishedAs, WroteAs}
 
 pub start-determined : (a : ℕ) (x y : Start) → x ≡ startOf a → y ≡ startOf a → x ≡ y

@@ -8,8 +8,8 @@ use native.Mathlib.Numerals.{add-one}
 use native.Mathlib.Omega.{arith}
 use lib.ListN.{length, take, drop, set, length-set, take-append-drop}
 use lib.Seq.{take-suc-set, drop-set-lt, length-take-le, drop-drop}
-use Rattle.writing.specs.declared.Why.{Why}
-use Rattle.writing.specs.Machine.{Run, after, stop}
+use Rattle.spelling.specs.declared.Why.{Why}
+use Rattle.spelling.specs.Machine.{Run, after, stop}
 use Rattle.writing.specs.Contracts.{WentAs}
 
 pub record Filling (R : Run) (out₀ out : List ℕ) (i n : ℕ) (todo : Run) : Type 0 where

@@ -14,11 +14,11 @@ use Rattle.alphabet.specs.Alphabet.{bits, digit}
 use Rattle.alphabet.proofs.AlphabetLaws.{bits-low, bits-high}
 use Rattle.alphabet.proofs.RegroupLaws.{rest-lt}
 use Rattle.reading.specs.Limit.{limit}
-use Rattle.writing.specs.declared.Why.the-variants as W
-use Rattle.writing.specs.Machine.{stop, after, fullRuns, keeps, onByte, run}
+use Rattle.spelling.specs.declared.Why.the-variants as W
+use Rattle.spelling.specs.Machine.{stop, after, fullRuns, keeps, onByte, run}
 use Rattle.writing.specs.Contracts.{Spells, leaving, WentAs}
-use Rattle.writing.proofs.LengthLaws.{shorter-within}
-use Rattle.writing.proofs.Cuts.{CutAs, says-one, says-two}
+use Rattle.spelling.proofs.LengthLaws.{shorter-within}
+use Rattle.spelling.proofs.Cuts.{CutAs, says-one, says-two}
 use Rattle.writing.proofs.Filling.{Filling, fill-none, fill-store, fill-two, fill-stop}
 
 -- at the loop's head, with i bytes taken and n written: of h the few low bits are held

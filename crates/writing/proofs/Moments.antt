@@ -15,19 +15,19 @@ use Rattle.alphabet.proofs.AlphabetLaws.{bits-low}
 use Rattle.answer.specs.declared.Kind.the-variants as K
 use Rattle.alphabet.proofs.Lengths.{written-length}
 use Rattle.reading.specs.Limit.{limit}
-use Rattle.writing.specs.declared.Why.{Why}
-use Rattle.writing.specs.declared.Why.the-variants as W
+use Rattle.spelling.specs.declared.Why.{Why}
+use Rattle.spelling.specs.declared.Why.the-variants as W
 use Rattle.writing.specs.declared.Status.{Status}
 use Rattle.writing.specs.declared.Status.the-variants as U
 use Rattle.writing.specs.declared.Writer.{Writer}
 use Rattle.writing.specs.declared.Start.the-variants as B
-use Rattle.writing.specs.Front.{front, heldOf, ending, rest}
-use Rattle.writing.specs.Machine.{Run}
+use Rattle.spelling.specs.Front.{front, heldOf, ending, rest}
+use Rattle.spelling.specs.Machine.{Run}
 use Rattle.writing.specs.Stream.{fresh, startOf, fitsStatus, soundBy, sound, Turn, moved, byWhy, close, byStatus, inOrder, ranOf, stepOf, finishOf}
 use Rattle.writing.specs.Moment.{Calls, start, step, finish, handed, After}
-use Rattle.writing.proofs.FrontLaws.{held-none, full-flow, front-none, front-rest}
-use Rattle.writing.proofs.LengthLaws.{none-within}
-use Rattle.writing.proofs.RunLaws.{RunAs, Because, run-means}
+use Rattle.spelling.proofs.FrontLaws.{held-none, full-flow, front-none, front-rest}
+use Rattle.spelling.proofs.LengthLaws.{none-within}
+use Rattle.spelling.proofs.RunLaws.{RunAs, Because, run-means}
 
 -- one byte more, as a length
 pub longer : (a : ℕ) (src : List ℕ) (c : ℕ) → length (written a (src ++ c ∷ [])) ≡ writtenLength a (length src + 1)

@@ -8,15 +8,16 @@ use lib.ListN.{length}
 use Rattle.answer.specs.declared.Kind.the-variants as K
 use Rattle.answer.specs.Told.{Told, told}
 use Rattle.answer.proofs.ToldCases.{told-accepted, told-long, told-room, told-bad, told-finished}
-use Rattle.writing.specs.declared.Why.{Why}
-use Rattle.writing.specs.declared.Why.the-variants as W
+use Rattle.spelling.specs.declared.Why.{Why}
+use Rattle.spelling.specs.declared.Why.the-variants as W
 use Rattle.writing.specs.declared.Status.{Status}
 use Rattle.writing.specs.declared.Status.the-variants as U
 use Rattle.writing.specs.declared.Writer.{Writer}
-use Rattle.writing.specs.Front.{ending}
-use Rattle.writing.specs.Machine.{Run}
+use Rattle.spelling.specs.Front.{ending}
+use Rattle.spelling.specs.Machine.{Run}
 use Rattle.writing.specs.Stream.{sound, Turn, unmoved, byWhy, close, byStatus, inOrder, ranOf, stepOf, finishOf}
-use Rattle.writing.specs.Numbers.{numbers, whyNumbers, statusNumbers, inOrderNumbers, stepNumbers, closeNumbers, finishNumbers}
+use Rattle.spelling.specs.Whole.{numbers}
+use Rattle.writing.specs.Numbers.{whyNumbers, statusNumbers, inOrderNumbers, stepNumbers, closeNumbers, finishNumbers}
 
 why-numbers : (w : Why) (s : Writer) (R : Run) → told (byWhy w s R .outcome) ≡ whyNumbers w (s .taken + R .took) (length (R .wrote))
 unfolding byWhy whyNumbers

@@ -18,20 +18,21 @@ use Rattle.alphabet.proofs.AlphabetLaws.{bits-low, bits-high}
 use Rattle.alphabet.proofs.Below.{below-snoc}
 use Rattle.alphabet.proofs.Cutting.{low-held}
 use Rattle.reading.specs.Limit.{limit}
-use Rattle.writing.specs.declared.Why.{Why}
-use Rattle.writing.specs.declared.Why.the-variants as W
+use Rattle.spelling.specs.declared.Why.{Why}
+use Rattle.spelling.specs.declared.Why.the-variants as W
 use Rattle.writing.specs.declared.Status.{Status}
 use Rattle.writing.specs.declared.Status.the-variants as U
 use Rattle.writing.specs.declared.Writer.{Writer}
-use Rattle.writing.specs.Front.{front, heldOf, ending}
-use Rattle.writing.specs.Machine.{Run, run, onByte}
+use Rattle.spelling.specs.Front.{front, heldOf, ending}
+use Rattle.spelling.specs.Machine.{Run, run, onByte}
 use Rattle.writing.specs.Stream.{fresh, startOf, fitsStatus, sound, Turn, closed, byWhy, close, ranOf, stepOf, finishOf}
 use Rattle.writing.specs.Moment.{Calls, start, step, finish, Reachable}
-use Rattle.writing.specs.Contracts.{Sound, opened}
-use Rattle.writing.proofs.FrontLaws.{held-none}
+use Rattle.spelling.specs.Sound.{Sound}
+use Rattle.writing.specs.Contracts.{opened}
+use Rattle.spelling.proofs.FrontLaws.{held-none}
 use Rattle.writing.proofs.Moments.{after-sound, moments}
 use Rattle.writing.proofs.Promises.{open-order}
-use Rattle.writing.proofs.Through.{Through, runs-through}
+use Rattle.spelling.proofs.Through.{Through, runs-through}
 use Rattle.writing.proofs.SoundLaws.{passes, fits}
 
 pub reached-passes : (s : Writer) → Reachable s → sound s ≡ true

@@ -17,16 +17,16 @@ use Rattle.alphabet.specs.Written.{written}
 use Rattle.alphabet.proofs.AlphabetLaws.{bits-low, bits-high, value-digit}
 use Rattle.alphabet.proofs.Runs.{joined-lt}
 use Rattle.alphabet.proofs.Cutting.{pack-bits}
-use Rattle.writing.specs.Front.{front, heldOf, rest}
-use Rattle.writing.specs.Machine.{waiting, fullRuns, completes}
+use Rattle.spelling.specs.Front.{front, heldOf, rest}
+use Rattle.spelling.specs.Machine.{waiting, fullRuns, completes}
 use Rattle.reading.specs.Continuation.{Begins}
-use Rattle.writing.specs.Shared.{Shared, LongestShared}
+use Rattle.spelling.specs.Shared.{Shared, LongestShared}
 use Rattle.writing.specs.declared.Status.the-variants as U
 use Rattle.writing.specs.declared.Writer.{Writer}
 use Rattle.writing.specs.Moment.{Calls}
-use Rattle.writing.proofs.FrontLaws.{full-flow, front-snoc, front-rest}
-use Rattle.writing.proofs.Cuts.{waiting-is}
-use Rattle.writing.proofs.Through.{Grows, grows}
+use Rattle.spelling.proofs.FrontLaws.{full-flow, front-snoc, front-rest}
+use Rattle.spelling.proofs.Cuts.{waiting-is}
+use Rattle.spelling.proofs.Through.{Grows, grows}
 use Rattle.writing.proofs.Moments.{moments}
 use Rattle.writing.proofs.Steps.{front-text}
 

@@ -5,13 +5,13 @@ use mathlib.Core.List.{List}
 use native.Mathlib.Omega.{arith}
 use lib.ListN.{length}
 use Rattle.answer.specs.declared.Kind.the-variants as K
-use Rattle.writing.specs.declared.Why.{Why}
-use Rattle.writing.specs.declared.Why.the-variants as W
+use Rattle.spelling.specs.declared.Why.{Why}
+use Rattle.spelling.specs.declared.Why.the-variants as W
 use Rattle.writing.specs.declared.Status.{Status}
 use Rattle.writing.specs.declared.Status.the-variants as U
 use Rattle.writing.specs.declared.Writer.{Writer}
 use Rattle.writing.specs.Stream.{sound, unmoved, byWhy, byStatus, inOrder, ranOf, stepOf}
-use Rattle.writing.proofs.RunLaws.{run-short}
+use Rattle.spelling.proofs.RunLaws.{run-short}
 
 pub step-short : (s : Writer) (piece : List ℕ) (room : ℕ) → stepOf s piece room .took ≤ length piece
 unfolding stepOf inOrder byStatus byWhy ranOf

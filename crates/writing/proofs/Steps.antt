@@ -15,16 +15,16 @@ use Rattle.alphabet.specs.Written.{written, writtenLength}
 use Rattle.alphabet.proofs.AlphabetLaws.{bits-low}
 use Rattle.alphabet.proofs.Lengths.{written-length}
 use Rattle.reading.specs.Limit.{limit}
-use Rattle.writing.specs.declared.Why.{Why}
-use Rattle.writing.specs.declared.Why.the-variants as W
+use Rattle.spelling.specs.declared.Why.{Why}
+use Rattle.spelling.specs.declared.Why.the-variants as W
 use Rattle.writing.specs.declared.Status.{Status}
 use Rattle.writing.specs.declared.Status.the-variants as U
 use Rattle.writing.specs.declared.Writer.{Writer}
-use Rattle.writing.specs.Front.{front, heldOf}
-use Rattle.writing.specs.Machine.{Run, fullRuns}
+use Rattle.spelling.specs.Front.{front, heldOf}
+use Rattle.spelling.specs.Machine.{Run, fullRuns}
 use Rattle.writing.specs.Stream.{at, count, byWhy, ranOf, stepOf}
 use Rattle.writing.specs.Moment.{Calls, After, handed}
-use Rattle.writing.proofs.RunLaws.{Because, front-more}
+use Rattle.spelling.proofs.RunLaws.{Because, front-more}
 use Rattle.writing.proofs.Moments.{after-sound, ran-as, moments}
 use Rattle.writing.proofs.Promises.{open-order}
 

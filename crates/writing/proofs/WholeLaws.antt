@@ -1,75 +1,50 @@
--- What the whole writer promises, case by case as its code goes. Assumes nothing.
-use Prim.Native.Nat.{ℕ, _+_, _*_, _/_, _<_, _≤_}
+-- What the whole writer promises, by what it measured, and that its buffer has the written form. Assumes nothing.
+use Prim.Native.Nat.{ℕ, _+_, _<_, _≤_}
 use mathlib.Core.Path.{_≡_, refl, sym, ap, _∙_}
-use mathlib.Core.List.{List}
+use mathlib.Core.List.{List, []}
 use native.Mathlib.Omega.{arith}
+use lib.Dec.{eqb}
 use lib.ListN.{length, drop, length-append}
 use lib.Seq.{paste, take-length, take-at, drop-append-add, drop-drop}
-use borrow.Author.Tests.{lt-ltb, le-ltb}
-use Rattle.answer.specs.declared.Kind.the-variants as K
 use Rattle.answer.specs.declared.Outcome.{Outcome}
 use Rattle.answer.specs.declared.Outcome.the-variants as O
-use Rattle.answer.specs.Told.{told}
-use Rattle.answer.proofs.ToldCases.{told-accepted, told-choice, told-long, told-room}
+use Rattle.answer.specs.declared.Kind.{Kind}
+use Rattle.answer.specs.declared.Place.{Place}
+use Rattle.answer.specs.declared.Count.{Count}
+use Rattle.answer.specs.Told.{Told, told}
+use Rattle.answer.proofs.ToldCases.{told-accepted, told-refused}
+use Rattle.answer.proofs.ToldLaws.{refusal}
 use Rattle.alphabet.specs.Alphabet.{bits}
 use Rattle.alphabet.specs.Written.{written, writtenLength}
-use Rattle.alphabet.proofs.Lengths.{written-length}
-use Rattle.reading.specs.Limit.{limit}
-use Rattle.writing.specs.declared.Ran.{Ran}
-use Rattle.writing.specs.Front.{front, heldOf, ending, rest}
-use Rattle.writing.specs.Machine.{run}
-use Rattle.writing.specs.Stream.{at, count}
-use Rattle.reading.specs.Buffer.{filled}
-use Rattle.writing.specs.Whole.{Wrote, nothing, writeOf}
-use Rattle.writing.specs.Contracts.{Sound, RanAs, WroteAs}
 use Rattle.alphabet.proofs.AlphabetLaws.{bits-low}
-use Rattle.writing.proofs.FrontLaws.{full-flow, front-length, front-rest}
-use Rattle.writing.proofs.LengthLaws.{within-most, beyond-most}
-use Rattle.writing.proofs.EndingLaws.{ending-length}
-use Rattle.writing.proofs.Through.{Through, runs-through}
+use Rattle.reading.specs.Limit.{limit}
+use Rattle.reading.specs.Buffer.{filled}
+use Rattle.spelling.specs.Front.{front, heldOf, ending, rest}
+use Rattle.spelling.specs.Machine.{run}
+use Rattle.spelling.specs.Whole.{writeOf}
+use Rattle.spelling.specs.Size.{FormFits}
+use Rattle.spelling.specs.Sound.{Sound}
+use Rattle.spelling.proofs.FrontLaws.{full-flow, front-length, front-rest}
+use Rattle.spelling.proofs.EndingLaws.{ending-length}
+use Rattle.spelling.proofs.Through.{Through, runs-through}
+use Rattle.spelling.proofs.MeasureLaws.{accepted, refused}
+use Rattle.writing.specs.declared.Ran.{Ran}
+use Rattle.writing.specs.Contracts.{RanAs, WroteAs}
 
-module _ (a : ℕ) (src o : List ℕ) where
-  write-by : (t : Wrote) (o' : List ℕ) (r : Outcome) → writeOf a src (length o) ≡ t → told r ≡ t .told → o' ≡ filled (t .text) o → WroteAs a src o o' r
-  write-by t o' r q e b = record { answer = rw q e; buffer = rw q b }
+module _ (a : ℕ) (src o : List ℕ) {r : Outcome} (e : told r ≡ writeOf a src (length o) .told) where
+  pub accepted-fits : (p : Place) (q : Count) → r ≡ O.Accepted p q → FormFits a src (length o)
+  accepted-fits p q f = accepted a src (length o) (ap (λ (t : Told). t .answer) (sym e ∙ ap told f ∙ told-accepted p q)) .0
 
-  pub wrote-choice : 5 < a → WroteAs a src o o (O.Refused K.Choice (count 0))
-  unfolding writeOf
-  wrote-choice l = write-by (nothing 1 0) o (O.Refused K.Choice (count 0)) (rw (le-ltb a 6 (omega arith))) (told-choice (count 0)) refl
+  pub wrote-all : (p : Place) (q : Count) → r ≡ O.Accepted p q → {o' : List ℕ} → o' ≡ filled (written a src) o → WroteAs a src o o' r
+  wrote-all p q f b =
+      let t : writeOf a src (length o) .text ≡ written a src = accepted a src (length o) (ap (λ (t : Told). t .answer) (sym e ∙ ap told f ∙ told-accepted p q)) .1 in
+      record { answer = e; buffer = rw t b }
 
-  -- b and most as the code has them
-  module _ (h : a ≤ 5) where
-    known : a < 6
-    known = omega arith
-
-    pub wrote-long : {b most : ℕ} → b ≡ bits a → most ≡ b * limit / 8 → most < length src → WroteAs a src o o (O.Refused (K.TooLong (at 0)) (count 0))
-    unfolding writeOf
-    wrote-long {b} {most} eb em l =
-        let k : limit < length (written a src) = rw (written-length a src) (beyond-most a known (length src) (rw (← eb, ← em) l)) in
-        write-by (nothing 2 0) o (O.Refused (K.TooLong (at 0)) (count 0)) (rw (lt-ltb a 6 known, lt-ltb limit (length (written a src)) k)) (told-long (at 0) (count 0)) refl
-
-    pub source-within : {b most : ℕ} → b ≡ bits a → most ≡ b * limit / 8 → length src ≤ most → writtenLength a (length src) ≤ limit
-    source-within {b} {most} eb em l = within-most a known (length src) .1 (rw (← eb, ← em) l)
-
-    module _ {need : ℕ} (w : writtenLength a (length src) ≤ limit) (e : need ≡ writtenLength a (length src)) where
-      form : need ≡ length (written a src)
-      form = e ∙ sym (written-length a src)
-
-      in-limit : length (written a src) ≤ limit
-      in-limit = rw (written-length a src) w
-
-      pub wrote-short : length o < need → WroteAs a src o o (O.Refused (K.NoRoom (at 0)) (count need))
-      unfolding writeOf
-      wrote-short l =
-          write-by (nothing 3 (length (written a src))) o (O.Refused (K.NoRoom (at 0)) (count need))
-          (rw (lt-ltb a 6 known, le-ltb limit (length (written a src)) in-limit, lt-ltb (length o) (length (written a src)) (rw form at l)))
-          (rw form (told-room (at 0) (count (length (written a src))))) refl
-
-      pub wrote-all : (o' : List ℕ) → need ≤ length o → o' ≡ filled (written a src) o → WroteAs a src o o' (O.Accepted (at need) (count need))
-      unfolding writeOf
-      wrote-all o' l b =
-          let n : ℕ = length (written a src) in
-          write-by (record { told = record { answer = 0; position = n; count = n }; text = written a src }) o' (O.Accepted (at need) (count need))
-          (rw (lt-ltb a 6 known, le-ltb limit n in-limit, le-ltb (length o) n (rw form at l))) (rw form (told-accepted (at n) (count n))) b
+  pub wrote-none : (k : Kind) (q : Count) → r ≡ O.Refused k q → WroteAs a src o o r
+  wrote-none k q f =
+      let t : writeOf a src (length o) .text ≡ [] =
+      refused a src (length o) (ap (λ (t : Told). eqb (t .answer) 0) (sym e ∙ ap told f ∙ told-refused k q) ∙ refusal k) in
+      record { answer = e; buffer = rw t }
 
 -- ---- the front laid by the run, and the ending after it
 

@@ -8,7 +8,7 @@ use Rattle.alphabet.specs.Bits.{Below}
 use Rattle.alphabet.specs.Alphabet.{bits}
 use Rattle.alphabet.specs.Written.{written}
 use Rattle.reading.specs.Limit.{limit}
-use Rattle.writing.specs.Front.{front, heldOf}
+use Rattle.spelling.specs.Front.{front, heldOf}
 use Rattle.writing.specs.Stream.{startOf, stepOf, finishOf}
 use Rattle.writing.specs.declared.Status.{Status}
 use Rattle.writing.specs.declared.Status.the-variants as U

@@ -5,16 +5,14 @@ use mathlib.Core.List.{List}
 use lib.Dec.{ltb}
 use lib.ListN.{length}
 use Rattle.answer.specs.Told.{Told}
-use Rattle.writing.specs.Front.{ending}
+use Rattle.spelling.specs.Front.{ending}
+use Rattle.spelling.specs.Whole.{numbers}
 use Rattle.writing.specs.Stream.{sound, ranOf}
-use Rattle.writing.specs.declared.Why.{Why}
-use Rattle.writing.specs.declared.Why.the-variants as W
+use Rattle.spelling.specs.declared.Why.{Why}
+use Rattle.spelling.specs.declared.Why.the-variants as W
 use Rattle.writing.specs.declared.Status.{Status}
 use Rattle.writing.specs.declared.Status.the-variants as U
 use Rattle.writing.specs.declared.Writer.{Writer}
-
-abbrev pub numbers : ℕ → ℕ → ℕ → Told
-numbers answer position count = record { answer = answer; position = position; count = count }
 
 -- 0: the whole piece taken, all bytes taken so far; 2: the source byte refused; 3: the next untaken byte
 unfoldable pub whyNumbers : Why → ℕ → ℕ → Told

@@ -14,10 +14,10 @@ use Rattle.answer.specs.declared.Outcome.{Outcome}
 use Rattle.answer.specs.declared.Outcome.the-variants as O
 use Rattle.alphabet.specs.Alphabet.{bits}
 use Rattle.reading.specs.Limit.{limit}
-use Rattle.writing.specs.Front.{ending}
-use Rattle.writing.specs.Machine.{Run, run}
-use Rattle.writing.specs.declared.Why.{Why}
-use Rattle.writing.specs.declared.Why.the-variants as W
+use Rattle.spelling.specs.Front.{ending}
+use Rattle.spelling.specs.Machine.{Run, run}
+use Rattle.spelling.specs.declared.Why.{Why}
+use Rattle.spelling.specs.declared.Why.the-variants as W
 use Rattle.writing.specs.declared.Status.{Status}
 use Rattle.writing.specs.declared.Status.the-variants as U
 use Rattle.writing.specs.declared.Writer.{Writer}

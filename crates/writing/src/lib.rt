@@ -1,11 +1,12 @@
 // The writer: the written form of a source, whole and as a stream by value. Here stand the types and the one loop that both share.
 mod stream; // stream.rt: start, step and finish by value
 mod whole; // whole.rt: the whole call
-pub mod measure; // measure.rt: what the whole writer answers, asked without a buffer
 
 use answer::Kind;
 use answer::Outcome;
 use answer::Place;
+use spelling::Size;
+use spelling::Why;
 pub use whole::write;
 ghost use mathlib.Core.Path.{_≡_};
 ghost use Prim.Native.Nat.{_+_, _*_, _/_, _%_, _^_, _<_, _≤_};
@@ -15,9 +16,11 @@ ghost use Rattle.alphabet.specs.Alphabet.{bits, digit, pad};
 ghost use Rattle.alphabet.specs.Table.{digitEntries};
 ghost use Rattle.alphabet.specs.Written.{writtenLength};
 ghost use Rattle.reading.specs.Limit.{limit};
-ghost use Rattle.writing.specs.Front.{ending};
-ghost use Rattle.writing.specs.Machine as machine;
-ghost use Rattle.writing.specs.Contracts.{Sound, Spells, leaving, WentAs, whyAt, RanAs};
+ghost use Rattle.spelling.specs.Front.{ending};
+ghost use Rattle.spelling.specs.Machine as machine;
+ghost use Rattle.spelling.specs.Machine.{whyAt};
+ghost use Rattle.spelling.specs.Sound.{Sound};
+ghost use Rattle.writing.specs.Contracts.{Spells, leaving, WentAs, RanAs};
 
 // Whether a writer goes on, refused a byte for the limit, or is finished.
 pub enum Status {
@@ -50,27 +53,11 @@ pub struct Stepped {
     pub told: Told,
 }
 
-// Why a run over a piece stopped: all of it is taken, a byte is refused for the limit, or the next byte needs room.
-pub enum Why {
-    All,
-    Limit,
-    Room,
-}
-
 struct Ran {
     held: u8,
     why: Why,
     taken: usize,
     written: usize,
-}
-
-// The longest source whose written form is within the limit, for digits of b bits.
-fn longest(b: usize) -> usize
-    requires { ⌜ b ≤ 6 ⌝ }
-    ensures { λ r. ⌜ r ≡ b * limit / 8 ⌝ }
-{
-    let l = reading::limit();
-    b * l / 8
 }
 
 // The smaller of two numbers.
@@ -85,11 +72,11 @@ fn written_len(alphabet: usize, n: usize) -> usize
     requires { ⌜ (alphabet < 6) × (writtenLength alphabet n ≤ limit) ⌝ }
     ensures { λ r. ⌜ r ≡ writtenLength alphabet n ⌝ }
 {
-    let b = alphabet::sizes::bits(alphabet);
-    let g = alphabet::sizes::group(alphabet);
-    let d = (8 * n + (b - 1)) / b;
-    let last = d % g;
-    if last == 0 { d } else { d + (g - last) }
+    match spelling::size_of(alphabet, n) {
+        Size::Needs(need) => need,
+        Size::TooLong => 0,
+        Size::Unknown => 0,
+    }
 }
 
 // What a run of bytes came to: the bits held, the bytes of the source taken and the digits written.
@@ -213,10 +200,7 @@ fn run(t: &[u8; 384], alphabet: usize, taken: usize, held: u8, piece: &[u8], out
     requires { ⌜ (now t ≡ digitEntries) × Sound alphabet taken held ⌝ }
     ensures { λ r. ⌜ RanAs (machine.run alphabet taken held (now (piece .entry)) (length (now (out .entry)))) r (now (out .entry)) (now (out .exit)) ⌝ }
 {
-    let end = least(
-        piece.len(),
-        longest(alphabet::sizes::bits(alphabet)) - taken,
-    );
+    let end = least(piece.len(), spelling::longest(alphabet) - taken);
     let w = spelled(t, alphabet, taken, held, &piece[..end], out);
     let took = w.taken;
     let why = why_at(took, end, piece.len());

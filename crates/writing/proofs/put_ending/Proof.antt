@@ -10,10 +10,10 @@ use borrow.Author.Needs.{needs}
 use Rattle.alphabet.specs.Alphabet.{digit, pad}
 use Rattle.alphabet.specs.Table.{digitIn}
 use Rattle.alphabet.proofs.AlphabetLaws.{bits-low, bits-high}
-use Rattle.writing.specs.Front.{ending}
-use Rattle.writing.proofs.LengthLaws.{source-small}
+use Rattle.spelling.specs.Front.{ending}
+use Rattle.spelling.proofs.LengthLaws.{source-small}
 use Rattle.writing.proofs.Lent.{digit-of}
-use Rattle.writing.proofs.EndingLaws.{ending-none, whole-length, ending-is, some-ending, value-lt, paste-none, laid}
+use Rattle.spelling.proofs.EndingLaws.{ending-none, whole-length, ending-is, some-ending, value-lt, paste-none, laid}
 use Rattle.writing.proofs.put_ending.Statement.{statement}
 use Rattle.writing.proofs.put_ending.Tie as tie
 

@@ -7,7 +7,7 @@ use lib.ListN.{length, replicate, set, length-set}
 use lib.Seq.{paste, paste-zero}
 use borrow.Author.Needs.{needs}
 use Rattle.alphabet.specs.Alphabet.{pad}
-use Rattle.writing.proofs.EndingLaws.{paste-pad}
+use Rattle.spelling.proofs.EndingLaws.{paste-pad}
 use Rattle.writing.proofs.put_pads.Statement.{statement}
 use Rattle.writing.proofs.put_pads.Tie as tie
 

@@ -1,23 +1,20 @@
 -- The piece, cut at the limit, meets the definition of a run. Assumes nothing.
 use mathlib.Core.Path.{refl, sym}
 use lib.Seq.{length-take-le}
-use Rattle.alphabet.proofs.AlphabetLaws.{bits-high}
 use borrow.Author.Needs.{needs}
-use Rattle.writing.proofs.LengthLaws.{within-most}
-use Rattle.writing.proofs.CutRuns.{part-within, cut-ran}
+use Rattle.spelling.proofs.LengthLaws.{longest-known, within-most}
+use Rattle.spelling.proofs.CutRuns.{part-within}
+use Rattle.writing.proofs.CutRan.{cut-ran}
 use Rattle.writing.proofs.run.Statement.{statement}
 use Rattle.writing.proofs.run.Tie as tie
 
-bits-requires : tie.Need-bits-requires
-bits-requires c κs = search needs
-
 longest-requires : tie.Need-longest-requires
-longest-requires c κs = rw (c .bits .ensures) (bits-high (c .before .before .before .args .alphabet) (c .before .before .before .pre .1 .known))
+longest-requires c κs = search needs
 
 sub-least : tie.Need-sub-least
 sub-least c =
-    let s = c .before .before .before .before in
-    rw (c .longest .ensures, c .before .bits .ensures) (within-most (s .args .alphabet) (s .pre .1 .known) (s .args .taken) .0 (s .pre .1 .within))
+    let s = c .before .before .before in
+    rw (c .longest .ensures, longest-known (s .args .alphabet) (s .pre .1 .known)) (within-most (s .args .alphabet) (s .pre .1 .known) (s .args .taken) .0 (s .pre .1 .within))
 
 least-requires : tie.Need-least-requires
 least-requires c κs = search needs
@@ -28,8 +25,8 @@ slice-aggregate-spelled c = sym (length-take-le _ _ (c .before .least .ensures .
 spelled-requires : tie.Need-spelled-requires
 spelled-requires c κs =
     let e = c .before .before in
-    let s = e .before .before .before .before .before in
-    record { table = s .pre .0; width = refl; sound = s .pre .1; within = part-within _ _ _ (s .pre .1) _ (e .before .before .bits .ensures) (rw (e .before .longest .ensures) at (e .least .ensures)) }
+    let s = e .before .before .before .before in
+    record { table = s .pre .0; width = refl; sound = s .pre .1; within = part-within _ _ _ (s .pre .1) _ (rw (e .before .longest .ensures) at (e .least .ensures)) }
 
 why-at-requires : tie.Need-why-at-requires
 why-at-requires c κs = search needs
@@ -41,14 +38,13 @@ returns : tie.Need-returns
 returns c =
     let w = c .before .before .before in
     let e = w .before .before .before in
-    let s = e .before .before .before .before .before in
-    cut-ran _ _ _ (s .pre .1) _ (e .before .before .bits .ensures) (rw (e .before .longest .ensures) at (e .least .ensures)) (w .spelled .ensures) (c .why-at .ensures)
+    let s = e .before .before .before .before in
+    cut-ran _ _ _ (s .pre .1) _ (rw (e .before .longest .ensures) at (e .least .ensures)) (w .spelled .ensures) (c .why-at .ensures)
 
 pub run-spec : {M : Type 1} → statement M
 run-spec =
     tie.close
     (tie.spec
-    bits-requires
     longest-requires
     sub-least
     least-requires

@@ -7,7 +7,7 @@ use Rattle.alphabet.specs.Alphabet.{bits}
 use Rattle.alphabet.specs.Table.{digitEntries}
 use Rattle.alphabet.proofs.AlphabetLaws.{bits-low}
 use borrow.Author.Needs.{needs}
-use Rattle.writing.proofs.LengthLaws.{source-small}
+use Rattle.spelling.proofs.LengthLaws.{source-small}
 use Rattle.writing.proofs.Going.{Going, begins, ends, sizes, none-fits, two-lack, took-one, took-two}
 use Rattle.writing.proofs.spell.Statement.{statement}
 use Rattle.writing.proofs.spell.Tie as tie

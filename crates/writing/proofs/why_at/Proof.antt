@@ -1,6 +1,6 @@
 -- The tests are the definition's. Assumes nothing.
 use borrow.Author.Tests.{lt-ltb, le-ltb}
-use Rattle.writing.specs.Contracts.{whyAt}
+use Rattle.spelling.specs.Machine.{whyAt}
 use Rattle.writing.proofs.why_at.Statement.{statement}
 use Rattle.writing.proofs.why_at.Tie as tie
 

@@ -1,84 +1,39 @@
--- The length of a written form as it is counted: the digits, and the pads where the last group is not full. Assumes nothing.
-use Prim.Native.Nat.{_+_, _-_, _*_, _/_, _%_, _<_, _≤_, _^_}
-use mathlib.Core.Path.{_≡_}
-use native.Mathlib.Nat.{mod-lt, le-of-lt}
+-- The length of a written form within the limit. Assumes nothing.
+use Prim.Native.Nat.{ℕ}
+use mathlib.Core.Path.{_≡_, _∙_}
 use native.Mathlib.Omega.{arith}
-use borrow.Author.Needs.{needs}
 use Rattle.alphabet.specs.Written.{writtenLength}
-use Rattle.alphabet.proofs.AlphabetLaws.{bits-low, bits-high, group-pos}
-use Rattle.reading.proofs.LimitLaws.{limit-small}
-use Rattle.writing.proofs.LengthLaws.{source-small, length-full, length-padded}
+use Rattle.spelling.specs.declared.Size.the-variants.{Needs}
+use Rattle.spelling.proofs.MeasureLaws.{size-within}
+use borrow.Author.Needs.{needs}
 use Rattle.writing.proofs.written_len.Statement.{statement}
 use Rattle.writing.proofs.written_len.Tie as tie
 
--- where both sizes are known
-eight : (c : tie.After-group) → 8 * c .before .before .args .n < 2 ^ 40
-eight c = source-small (c .before .before .args .alphabet) (c .before .before .pre .0) (c .before .before .args .n) (c .before .before .pre .1)
+size-is : (c : tie.After-size-of) → c .size-of .result ≡ Needs (writtenLength (c .before .args .alphabet) (c .before .args .n))
+size-is c = c .size-of .ensures ∙ size-within _ _ (c .before .pre .0) (c .before .pre .1)
 
-low : (c : tie.After-group) → 4 ≤ c .before .bits .result
-low c = rw (c .before .bits .ensures) (bits-low (c .before .before .args .alphabet) (c .before .before .pre .0))
+size-of-requires : tie.Need-size-of-requires
+size-of-requires c κs = search needs
 
-high : (c : tie.After-group) → c .before .bits .result ≤ 6
-high c = rw (c .before .bits .ensures) (bits-high (c .before .before .args .alphabet) (c .before .before .pre .0))
+enum-known-need : tie.Need-enum-known-need
+enum-known-need c = search needs
 
-wide : (c : tie.After-group) → 0 < c .group .result
-wide c = rw (c .group .ensures) (group-pos (c .before .before .args .alphabet) (c .before .before .pre .0))
+enum-told : tie.Need-enum-told
+enum-told c = search needs
 
-bits-requires : tie.Need-bits-requires
-bits-requires c κs = search needs
-
-group-requires : tie.Need-group-requires
-group-requires c κs = search needs
-
-mul-d : tie.Need-mul-d
-mul-d c = omega (arith, eight c)
-
-sub-d : tie.Need-sub-d
-sub-d c = omega (arith, low c)
-
-add-d : tie.Need-add-d
-add-d c = omega (arith, eight c, high c)
-
-div-d : tie.Need-div-d
-div-d c = omega (arith, low c)
-
-rem-last : tie.Need-rem-last
-rem-last c = wide c
-
-sub-result : tie.Need-sub-result
-sub-result c = le-of-lt (mod-lt _ (wide (c .before)))
-
-padded : (c : tie.Else1)
-    → (8 * c .before .before .before .args .n + (c .before .before .bits .result - 1)) / c .before .before .bits .result
-    + (c .before .group .result - (8 * c .before .before .before .args .n + (c .before .before .bits .result - 1)) / c .before .before .bits .result % c .before .group .result)
-    ≡ writtenLength (c .before .before .before .args .alphabet) (c .before .before .before .args .n)
-padded c =
-    let s = c .before .before .before in
-    length-padded (s .args .alphabet) (s .pre .0) (s .args .n) (c .before .before .bits .ensures) (c .before .group .ensures) (c .if1 .left)
-
-add-result : tie.Need-add-result
-add-result c = record { fits = rw (padded c) (omega (arith, c .before .before .before .pre .1, limit-small)) }
+enum-told-2 : tie.Need-enum-told-2
+enum-told-2 c = search needs
 
 returns : tie.Need-returns
-returns c =
-    let s = c .before .before .before in
-    length-full (s .args .alphabet) (s .pre .0) (s .args .n) (c .before .before .bits .ensures) (c .before .group .ensures) (c .if1 .taken)
+returns c = cc (c .before .need .given .1, size-is (c .before .before .before))
 
 returns-2 : tie.Need-returns-2
-returns-2 c = padded c
+returns-2 c = let z : _≡_ {A = ℕ} 0 1 = cc (c .enum-told .given .1, size-is (c .before .before)) in absurd (omega arith)
+
+returns-3 : tie.Need-returns-3
+returns-3 c = let z : _≡_ {A = ℕ} 0 1 = cc (c .enum-told2 .given .1, size-is (c .before .before)) in absurd (omega arith)
 
 pub written-len-spec : {M : Type 1} → statement M
 written-len-spec =
     tie.close
-    (tie.spec
-    bits-requires
-    group-requires
-    mul-d
-    sub-d
-    add-d
-    div-d
-    rem-last
-    sub-result
-    add-result
-    returns
-    returns-2)
+    (tie.spec size-of-requires enum-known-need enum-told enum-told-2 returns returns-2 returns-3)

@@ -5,9 +5,9 @@ use native.Mathlib.Nat.{zero-add}
 use native.Mathlib.Omega.{arith}
 use lib.ListN.{length}
 use Rattle.alphabet.proofs.AlphabetLaws.{bits-low}
-use Rattle.writing.specs.Front.{ending}
-use Rattle.writing.proofs.LengthLaws.{source-small}
-use Rattle.writing.proofs.EndingLaws.{ending-length, needed}
+use Rattle.spelling.specs.Front.{ending}
+use Rattle.spelling.proofs.LengthLaws.{source-small}
+use Rattle.spelling.proofs.EndingLaws.{ending-length, needed}
 use Rattle.writing.proofs.Promises.{closed-short, closed-done}
 use borrow.Author.Needs.{needs}
 use Rattle.writing.proofs.stream.closed.Statement.{statement}
@@ -38,11 +38,11 @@ sub-need c =
     let s = c .before .before .before in
     rw (c .bits .ensures, c .before .written-len .ensures) (omega (arith, ending-length (s .args .alphabet) (s .args .taken) (s .args .held) (s .pre .known)))
 
-unmoved-requires : tie.Need-unmoved-requires
-unmoved-requires c κs = search needs
+lacking-requires : tie.Need-lacking-requires
+lacking-requires c κs = search needs
 
 returns : tie.Need-returns
-returns c = closed-short _ _ _ _ (need (c .before .before)) _ (c .before .if1 .taken) (c .unmoved .ensures)
+returns c = closed-short _ _ _ _ (need (c .before .before)) _ (c .before .if1 .taken) (c .lacking .ensures)
 
 digits-requires : tie.Need-digits-requires
 digits-requires c κs = search needs
@@ -52,8 +52,8 @@ put-ending-requires c κs =
     let b = c .before .before .before .before in
     ((c .before .before .digits .ensures, b .before .before .before .pre), rw (zero-add, ← need b) (c .before .before .before .if1 .left))
 
-gave-requires : tie.Need-gave-requires
-gave-requires c κs = search needs
+done-requires : tie.Need-done-requires
+done-requires c κs = search needs
 
 same-length : tie.Need-same-length
 same-length c = search needs
@@ -62,7 +62,7 @@ returns-2 : tie.Need-returns-2
 returns-2 c =
     let e = c .before .before .before in
     let f = e .before .before .before .before in
-    closed-done _ _ _ _ (need (f .before)) _ _ (f .if1 .left) (e .put-ending .ensures) (c .gave .ensures)
+    closed-done _ _ _ _ (need (f .before)) _ _ (f .if1 .left) (e .put-ending .ensures) (c .done .ensures)
 
 pub closed-spec : {M : Type 1} → statement M
 closed-spec =
@@ -73,10 +73,10 @@ closed-spec =
     bits-requires
     div-need
     sub-need
-    unmoved-requires
+    lacking-requires
     returns
     digits-requires
     put-ending-requires
-    gave-requires
+    done-requires
     same-length
     returns-2)
