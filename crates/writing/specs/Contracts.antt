@@ -8,7 +8,6 @@ use Rattle.answer.specs.declared.Outcome.{Outcome}
 use Rattle.answer.specs.declared.Outcome.the-variants as O
 use Rattle.answer.specs.Told.{told}
 use Rattle.alphabet.specs.Alphabet.{bits}
-use Rattle.alphabet.specs.Table.{digitEntries}
 use Rattle.alphabet.specs.Written.{written, writtenLength}
 use Rattle.reading.specs.Limit.{limit}
 use Rattle.spelling.specs.Sound.{Sound}
@@ -23,32 +22,13 @@ use Rattle.spelling.specs.declared.Why.{Why}
 use Rattle.spelling.specs.declared.Why.the-variants as W
 use Rattle.writing.specs.declared.Status.{Status}
 use Rattle.writing.specs.declared.Status.the-variants as U
-use Rattle.writing.specs.declared.Went.{Went}
 use Rattle.writing.specs.declared.Ran.{Ran}
 use Rattle.writing.specs.declared.Writer.{Writer}
 use Rattle.writing.specs.declared.Stepped.{Stepped}
 
 -- ---- between the functions
 
--- what the loop asks: the table, the width, numbers that a source gives, and a piece that keeps within the limit
-pub record Spells (t : List ℕ) (a b n held : ℕ) (piece : List ℕ) : Type 0 where
-  pub table : t ≡ digitEntries
-  pub width : b ≡ bits a
-  pub sound : Sound a n held
-  pub within : writtenLength a (n + length piece) ≤ limit
-
--- of loose bits h the few low ones are held
-abbrev pub leaving : ℕ → ℕ → ℕ → ℕ → Went
-leaving h few n m = record { held = h % 2 ^ few; taken = n; written = m }
-
--- where a run came to, and the buffer o, o' at entry and exit, are what the definition gives
-pub record WentAs (R : Run) (r : Went) (o o' : List ℕ) : Type 0 where
-  pub held : r .held ≡ R .held
-  pub taken : r .taken ≡ R .took
-  pub written : r .written ≡ length (R .wrote)
-  pub buffer : o' ≡ filled (R .wrote) o
-
--- the same with why it stopped
+-- a run's answer r, and the buffer o, o' at entry and exit, are what the definition gives
 pub record RanAs (R : Run) (r : Ran) (o o' : List ℕ) : Type 0 where
   pub held : r .held ≡ R .held
   pub why : r .why ≡ R .why

@@ -106,8 +106,7 @@ impl Writer {
         if sound(alphabet, taken, held, status) {
             return match status {
                 Status::Open => {
-                    let t = alphabet::table::digits();
-                    let r = super::run(&t, alphabet, taken, held, piece, out);
+                    let r = super::run(alphabet, taken, held, piece, out);
                     as_step(alphabet, taken, r)
                 }
                 Status::TooLong => unmoved(self, Kind::TooLong(Place(taken))),

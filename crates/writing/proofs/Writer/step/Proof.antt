@@ -17,18 +17,15 @@ sound-requires c κs = search needs
 enum-told : tie.Need-enum-told
 enum-told c = search needs
 
-digits-requires : tie.Need-digits-requires
-digits-requires c κs = search needs
-
 run-requires : tie.Need-run-requires
 run-requires c κs =
-    let t = c .before .before .before .before .before in
-    (c .before .before .digits .ensures, passes _ _ _ _ (sym (t .before .sound .ensures) ∙ t .if1 .taken))
+    let t = c .before .before .before in
+    passes _ _ _ _ (sym (t .before .sound .ensures) ∙ t .if1 .taken)
 
 as-step-requires : tie.Need-as-step-requires
 as-step-requires c κs =
     let r = c .before .before in
-    let t = r .before .before .before .before .before .before in
+    let t = r .before .before .before .before in
     let s = t .before .before .before .before in
     let p = passes _ _ _ _ (sym (t .before .sound .ensures) ∙ t .if1 .taken) in
     omega
@@ -53,7 +50,7 @@ returns : tie.Need-returns
 unfolding ranOf
 returns c =
     let r = c .before .before .before in
-    let e = r .before .before .before .before in
+    let e = r .before .before in
     let t = e .before .before in
     step-ran _ _ _ (sym (t .before .sound .ensures) ∙ t .if1 .taken) _ _ _ (e .enum-told .given .1) (r .run .ensures) (c .as-step .ensures)
 
@@ -79,7 +76,6 @@ step-spec =
     (tie.spec
     sound-requires
     enum-told
-    digits-requires
     run-requires
     as-step-requires
     enum-told-2
