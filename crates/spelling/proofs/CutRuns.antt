@@ -1,4 +1,4 @@
--- A piece that is cut at the limit: its run is that of the part before the cut, and why it stopped is read off how far that came. Assumes nothing.
+-- A piece that is cut at the limit: its run is that of the part before the cut, asked for its room alone, and why it stopped is read off how far that came. Assumes nothing.
 use Prim.Native.Nat.{ℕ, suc, _+_, _-_, _*_, _/_, _<_, _≤_, zero-le}
 use mathlib.Core.Path.{_≡_, refl, sym, ap, _∙_, subst}
 use mathlib.Core.Bool.{Bool, true, false, cond}
@@ -15,7 +15,7 @@ use Rattle.alphabet.specs.Alphabet.{bits, digit}
 use Rattle.reading.specs.Limit.{limit}
 use Rattle.spelling.specs.declared.Why.{Why}
 use Rattle.spelling.specs.declared.Why.the-variants as W
-use Rattle.spelling.specs.Machine.{Run, stop, after, fullRuns, completes, keeps, onByte, run, whyAt}
+use Rattle.spelling.specs.Machine.{Run, stop, after, fullRuns, completes, keeps, onByte, run, whereRoom, spell, whyAt}
 use Rattle.spelling.specs.Sound.{Sound}
 use Rattle.spelling.specs.Size.{longestOf}
 use Rattle.spelling.proofs.LengthLaws.{longest-known, within-most, beyond-most, shorter-within}
@@ -33,8 +33,8 @@ next-test k m = go (ltb k m) refl
 
 module _ (a : ℕ) (known : a < 6) (w : Why) where
   byte-before : (n held c room m : ℕ) {X : Run} (Y : Run) → writtenLength a (n + 1) ≤ limit → X ≡ because (cond (ltb (Y .took) m) W.Room w) Y
-      → onByte a n held c room X ≡ because (cond (ltb (onByte a n held c room Y .took) (suc m)) W.Room w) (onByte a n held c room Y)
-  unfolding onByte
+      → onByte a n held c room X ≡ because (cond (ltb (whereRoom a n held c room Y .took) (suc m)) W.Room w) (whereRoom a n held c room Y)
+  unfolding onByte whereRoom
   byte-before n held c room m {X} Y l e = rw (le-ltb limit (writtenLength a (n + 1)) l) (go (ltb room (fullRuns (bits a) n)))
     where
       text : List ℕ
@@ -48,12 +48,12 @@ module _ (a : ℕ) (known : a < 6) (w : Why) where
   -- a part within the limit, before a part of which no byte is taken
   run-before : (p q : List ℕ) (n held room : ℕ) → writtenLength a (n + length p) ≤ limit
       → ((left space : ℕ) → run a (n + length p) left q space ≡ stop left w)
-      → run a n held (p ++ q) room ≡ because (cond (ltb (run a n held p room .took) (length p)) W.Room w) (run a n held p room)
-  unfolding run
+      → run a n held (p ++ q) room ≡ because (cond (ltb (spell a n held p room .took) (length p)) W.Room w) (spell a n held p room)
+  unfolding run spell
   run-before [] q n held room l none = rw add-zero at (none held room)
   run-before (c ∷ cs) q n held room l none =
       let e : n + suc (length cs) ≡ n + 1 + length cs = omega arith in
-      byte-before n held c room (length cs) (run a (n + 1) (keeps (bits a) n held c) cs (room - fullRuns (bits a) n)) (shorter-within a known (n + 1) (n + suc (length cs)) (omega arith) l)
+      byte-before n held c room (length cs) (spell a (n + 1) (keeps (bits a) n held c) cs (room - fullRuns (bits a) n)) (shorter-within a known (n + 1) (n + suc (length cs)) (omega arith) l)
       (run-before cs q (n + 1) (keeps (bits a) n held c) (room - fullRuns (bits a) n) (rw e at l) (rw e at none))
 
 -- cut at the limit, or not at all
@@ -65,7 +65,7 @@ module _ (a n held : ℕ) (s : Sound a n held) (piece : List ℕ) {end : ℕ}
   part-length : length (take end piece) ≡ end
   part-length = length-take-le end piece (cut .0)
 
-  pub part-within : writtenLength a (n + length (take end piece)) ≤ limit
+  part-within : writtenLength a (n + length (take end piece)) ≤ limit
   part-within = within-most a (s .known) (n + length (take end piece)) .1 (rw (← longest-known a (s .known), part-length) (omega (arith, cut .1, n-within)))
 
   none-after : (left room : ℕ) → run a (n + end) left (drop end piece) room ≡ stop left (cond (ltb end (length piece)) W.Limit W.All)
@@ -80,7 +80,7 @@ module _ (a n held : ℕ) (s : Sound a n held) (piece : List ℕ) {end : ℕ}
 
   pub cut-run : (room : ℕ)
       → run a n held piece room
-      ≡ because (whyAt (run a n held (take end piece) room .took) end (length piece)) (run a n held (take end piece) room)
+      ≡ because (whyAt (spell a n held (take end piece) room .took) end (length piece)) (spell a n held (take end piece) room)
   unfolding whyAt
   cut-run room =
       ap (λ (l : List ℕ). run a n held l room) (sym (take-append-drop end piece))

@@ -7,3 +7,4 @@ pub mod Through
 pub mod CutRuns
 pub mod SoundNumbers
 pub mod MeasureLaws
+pub mod Lent

@@ -53,6 +53,16 @@ run a n held [] room = stop held W.All
 run a n held (c ∷ cs) room =
     onByte a n held c room (run a (n + 1) (keeps (bits a) n held c) cs (room - fullRuns (bits a) n))
 
+-- the same with no limit: as far as there is room
+unfoldable pub whereRoom : ℕ → ℕ → ℕ → ℕ → ℕ → Run → Run
+whereRoom a n held c room next =
+    cond (ltb room (fullRuns (bits a) n)) (stop held W.Room) (after 1 (map (digit a) (completes (bits a) n held c)) next)
+
+unfoldable pub spell : ℕ → ℕ → ℕ → List ℕ → ℕ → Run
+spell a n held [] room = stop held W.All
+spell a n held (c ∷ cs) room =
+    whereRoom a n held c room (spell a (n + 1) (keeps (bits a) n held c) cs (room - fullRuns (bits a) n))
+
 -- why a run stopped that took n bytes of a piece of so many, cut at the limit
 unfoldable pub whyAt : ℕ → ℕ → ℕ → Why
 whyAt n end len = cond (ltb n end) W.Room (cond (ltb end len) W.Limit W.All)

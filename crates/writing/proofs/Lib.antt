@@ -1,6 +1,3 @@
-pub mod Lent
-pub mod Filling
-pub mod Going
 pub mod SoundLaws
 pub mod Moments
 pub mod NumberLaws

@@ -3,7 +3,6 @@ use Prim.Native.Nat.{ℕ, _+_, _<_, _≤_}
 use mathlib.Core.Path.{_≡_, refl, sym, ap, _∙_}
 use mathlib.Core.Bool.{Bool, true, false, cond}
 use mathlib.Core.List.{List}
-use native.Mathlib.Omega.{arith}
 use lib.Dec.{ltb}
 use lib.ListN.{length, drop}
 use lib.Seq.{paste, take-append-seam}
@@ -22,9 +21,9 @@ use Rattle.writing.specs.declared.Writer.{Writer}
 use Rattle.writing.specs.declared.Stepped.{Stepped}
 use Rattle.spelling.specs.Front.{ending}
 use Rattle.spelling.specs.Machine.{Run}
-use Rattle.writing.specs.Stream.{at, count, soundBy, sound, Turn, unmoved, closed, byWhy, close, byStatus, inOrder, ranOf, stepOf, finishOf}
+use Rattle.writing.specs.Stream.{at, count, sound, Turn, unmoved, closed, byWhy, close, byStatus, inOrder, ranOf, stepOf, finishOf}
 use Rattle.reading.specs.Buffer.{filled}
-use Rattle.writing.specs.Contracts.{RanAs, goesOn, standing, standsBefore, given, asStepped, statusBy, outcomeBy, ranAs, opened, ClosedAs, handedOut, SteppedAs, FinishedAs}
+use Rattle.writing.specs.Contracts.{RanAs, given, asStepped, statusBy, outcomeBy, ranAs, opened, ClosedAs, handedOut, SteppedAs, FinishedAs}
 use Rattle.writing.proofs.NumberLaws.{step-numbers, finish-numbers}
 use Rattle.writing.proofs.Moments.{step-moment, finish-moment}
 use Rattle.spelling.proofs.EndingLaws.{paste-front}
@@ -102,6 +101,11 @@ finish-promise s o o' r e b =
 
 -- ---- a run's answer as a step's
 
+pub as-ran : (a n : ℕ) (r : Ran) (w : Why) → r .why ≡ w
+    → given (record { alphabet = a; taken = n + r .taken; held = r .held; status = statusBy w }) (outcomeBy w (n + r .taken) (r .written)) (r .taken) ≡ ranAs a n r
+as-ran a n r w e =
+    ap (λ (v : Why). given (record { alphabet = a; taken = n + r .taken; held = r .held; status = statusBy v }) (outcomeBy v (n + r .taken) (r .written)) (r .taken)) (sym e)
+
 wrote-why : (w : Why) (s : Writer) (R : Run) → R .wrote ≡ byWhy w s R .wrote
 unfolding byWhy
 wrote-why W.All s R = refl
@@ -121,6 +125,10 @@ as-why w s R x o o' a e = rw (a .held, a .why ∙ e, a .taken, a .written) (same
 
 -- ---- the cases as the code takes them, by the order in a call
 
+pub bad-order : (s : Writer) (t : Turn) → sound s ≡ false → inOrder s t ≡ unmoved s K.BadState
+unfolding inOrder
+bad-order s t e = ap (λ (x : Bool). cond x (byStatus (s .status) s t) (unmoved s K.BadState)) e
+
 pub in-order : (s : Writer) (t : Turn) {u : Status} → sound s ≡ true → s .status ≡ u → inOrder s t ≡ byStatus u s t
 unfolding inOrder
 in-order s t e f =
@@ -138,74 +146,51 @@ pub open-order : (s : Writer) (t : Turn) → sound s ≡ true → s .status ≡ 
 unfolding byStatus
 open-order s t e f = in-order s t e f
 
-pub bad-order : (s : Writer) (t : Turn) → sound s ≡ false → inOrder s t ≡ unmoved s K.BadState
-unfolding inOrder
-bad-order s t e = ap (λ (x : Bool). cond x (byStatus (s .status) s t) (unmoved s K.BadState)) e
-
--- as the code asks
-abbrev goes : Writer → Bool
-goes s = goesOn (s .alphabet) (s .taken) (s .held) (s .status)
-
-abbrev stands : Writer → Kind
-stands s = standsBefore (s .alphabet) (s .taken) (s .held) (s .status)
-
-barred-order : (s : Writer) (t : Turn) → goes s ≡ false → inOrder s t ≡ unmoved s (stands s)
-unfolding goesOn standsBefore inOrder byStatus
-barred-order s t = go (s .status)
-  where
-    by : (u : Status) (x : Bool) → byStatus u s t ≡ unmoved s (standing u (s .taken))
-        → cond x (byStatus u s t) (unmoved s K.BadState) ≡ unmoved s (cond x (standing u (s .taken)) K.BadState)
-    by u true e = e
-    by u false e = refl
-
-    go : (u : Status) → goesOn (s .alphabet) (s .taken) (s .held) u ≡ false
-        → cond (soundBy (s .alphabet) (s .taken) (s .held) u) (byStatus u s t) (unmoved s K.BadState)
-        ≡ unmoved s (cond (soundBy (s .alphabet) (s .taken) (s .held) u) (standing u (s .taken)) K.BadState)
-    go U.Open e = rw e
-    go U.TooLong e = by U.TooLong (soundBy (s .alphabet) (s .taken) (s .held) U.TooLong) refl
-    go U.Done e = by U.Done (soundBy (s .alphabet) (s .taken) (s .held) U.Done) refl
-
-pub went-on : (s : Writer) → goes s ≡ true → (sound s ≡ true) × (s .status ≡ U.Open)
-unfolding goesOn
-went-on s = go (s .status)
-  where
-    go : (u : Status) → goesOn (s .alphabet) (s .taken) (s .held) u ≡ true → (soundBy (s .alphabet) (s .taken) (s .held) u ≡ true) × (u ≡ U.Open)
-    go U.Open e = (e, refl)
-    go U.TooLong e = let z : _≡_ {A = ℕ} 0 1 = cc in absurd (omega arith)
-    go U.Done e = let z : _≡_ {A = ℕ} 0 1 = cc in absurd (omega arith)
-
-module _ (s : Writer) (o : List ℕ) where
-  step-by : (piece : List ℕ) (t : Turn) (o' : List ℕ) (r : Stepped) → stepOf s piece (length o) ≡ t → r ≡ asStepped t → o' ≡ filled (t .wrote) o → SteppedAs s piece o o' r
-  step-by piece t o' r q e b = step-promise s piece o o' r (rw q e) (rw q b)
+module _ (s : Writer) (piece o : List ℕ) where
+  step-by : (t : Turn) (o' : List ℕ) (r : Stepped) → stepOf s piece (length o) ≡ t → r ≡ asStepped t → o' ≡ filled (t .wrote) o → SteppedAs s piece o o' r
+  step-by t o' r q e b = step-promise s piece o o' r (rw q e) (rw q b)
 
   finish-by : (t : Turn) (o' : List ℕ) (r : Stepped) → finishOf s (length o) ≡ t → r ≡ asStepped t → o' ≡ filled (t .wrote) o → FinishedAs s o o' r
   finish-by t o' r q e b = finish-promise s o o' r (rw q e) (rw q b)
 
-  module _ (no : goes s ≡ false) where
-    pub step-barred : (piece : List ℕ) (r : Stepped) → r ≡ asStepped (unmoved s (stands s)) → SteppedAs s piece o o r
+  pub step-bad : (r : Stepped) → sound s ≡ false → r ≡ asStepped (unmoved s K.BadState) → SteppedAs s piece o o r
+  unfolding stepOf
+  step-bad r e f = step-by (unmoved s K.BadState) o r (bad-order s _ e) f refl
+
+  pub finish-bad : (r : Stepped) → sound s ≡ false → r ≡ asStepped (unmoved s K.BadState) → FinishedAs s o o r
+  unfolding finishOf
+  finish-bad r e f = finish-by (unmoved s K.BadState) o r (bad-order s _ e) f refl
+
+  module _ (ok : sound s ≡ true) where
+    pub step-long : (r : Stepped) → s .status ≡ U.TooLong → r ≡ asStepped (unmoved s (K.TooLong (at (s .taken)))) → SteppedAs s piece o o r
     unfolding stepOf
-    step-barred piece r f = step-by piece (unmoved s (stands s)) o r (barred-order s _ no) f refl
+    step-long r e f = step-by (unmoved s (K.TooLong (at (s .taken)))) o r (long-order s _ ok e) f refl
 
-    pub finish-barred : (r : Stepped) → r ≡ asStepped (unmoved s (stands s)) → FinishedAs s o o r
+    pub finish-long : (r : Stepped) → s .status ≡ U.TooLong → r ≡ asStepped (unmoved s (K.TooLong (at (s .taken)))) → FinishedAs s o o r
     unfolding finishOf
-    finish-barred r f = finish-by (unmoved s (stands s)) o r (barred-order s _ no) f refl
+    finish-long r e f = finish-by (unmoved s (K.TooLong (at (s .taken)))) o r (long-order s _ ok e) f refl
 
-  module _ (go : goes s ≡ true) where
-    pub step-ran : (piece o' : List ℕ) (x : Ran) (r : Stepped) → RanAs (ranOf s piece (length o)) x o o' → r ≡ ranAs (s .alphabet) (s .taken) x
+    pub step-done : (r : Stepped) → s .status ≡ U.Done → r ≡ asStepped (unmoved s K.Finished) → SteppedAs s piece o o r
+    unfolding stepOf
+    step-done r e f = step-by (unmoved s K.Finished) o r (done-order s _ ok e) f refl
+
+    pub finish-done : (r : Stepped) → s .status ≡ U.Done → r ≡ asStepped (unmoved s K.Finished) → FinishedAs s o o r
+    unfolding finishOf
+    finish-done r e f = finish-by (unmoved s K.Finished) o r (done-order s _ ok e) f refl
+
+    pub step-ran : (o' : List ℕ) (x : Ran) (r : Stepped) → s .status ≡ U.Open → RanAs (ranOf s piece (length o)) x o o' → r ≡ ranAs (s .alphabet) (s .taken) x
         → SteppedAs s piece o o' r
     unfolding stepOf
-    step-ran piece o' x r a f =
+    step-ran o' x r e a f =
         let R : Run = ranOf s piece (length o) in
-        step-by piece (byWhy (R .why) s R) o' r (open-order s _ (went-on s go .0) (went-on s go .1)) (f ∙ as-why (R .why) s R x o o' a refl)
-        (a .buffer ∙ ap (λ (w : List ℕ). filled w o) (wrote-why (R .why) s R))
+        step-by (byWhy (R .why) s R) o' r (open-order s _ ok e) (f ∙ as-why (R .why) s R x o o' a refl) (a .buffer ∙ ap (λ (w : List ℕ). filled w o) (wrote-why (R .why) s R))
 
-    pub finish-closed : (o' : List ℕ) (r : Stepped) → ClosedAs (s .alphabet) (s .taken) (s .held) o o' r → FinishedAs s o o' r
+    pub finish-closed : (o' : List ℕ) (r : Stepped) → s .status ≡ U.Open → ClosedAs (s .alphabet) (s .taken) (s .held) o o' r → FinishedAs s o o' r
     unfolding finishOf
-    finish-closed o' r a =
-        let e : s .status ≡ U.Open = went-on s go .1 in
+    finish-closed o' r e a =
         let q : opened (s .alphabet) (s .taken) (s .held) ≡ s = ap (λ (u : Status). record { alphabet = s .alphabet; taken = s .taken; held = s .held; status = u }) (sym e) in
         let T : Writer → Turn = λ w. close w (ending (s .alphabet) (s .taken) (s .held)) (length o) in
-        finish-by (T s) o' r (open-order s _ (went-on s go .0) e) (a .result ∙ ap (λ (w : Writer). asStepped (T w)) q) (a .buffer ∙ ap (λ (w : Writer). filled (T w .wrote) o) q)
+        finish-by (T s) o' r (open-order s _ ok e) (a .result ∙ ap (λ (w : Writer). asStepped (T w)) q) (a .buffer ∙ ap (λ (w : Writer). filled (T w .wrote) o) q)
 
 -- ---- the finish of an open writer
 

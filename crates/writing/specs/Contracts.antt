@@ -1,23 +1,19 @@
 -- What the writer's functions promise: the equation that determines the result and the buffer at exit, and what 01 says of them. Assumes nothing.
 use Prim.Native.Nat.{ℕ, _+_, _*_, _%_, _^_, _<_, _≤_}
 use mathlib.Core.Path.{_≡_}
-use mathlib.Core.Bool.{Bool, false, cond}
 use mathlib.Core.List.{List, _++_}
-use lib.Dec.{ltb}
 use lib.ListN.{length, take}
-use Rattle.answer.specs.declared.Kind.{Kind}
 use Rattle.answer.specs.declared.Kind.the-variants as K
 use Rattle.answer.specs.declared.Outcome.{Outcome}
 use Rattle.answer.specs.declared.Outcome.the-variants as O
 use Rattle.answer.specs.Told.{told}
 use Rattle.alphabet.specs.Alphabet.{bits}
-use Rattle.alphabet.specs.Table.{digitEntries}
 use Rattle.alphabet.specs.Written.{written, writtenLength}
 use Rattle.reading.specs.Limit.{limit}
 use Rattle.spelling.specs.Sound.{Sound}
 use Rattle.spelling.specs.Front.{ending}
 use Rattle.spelling.specs.Machine.{Run}
-use Rattle.writing.specs.Stream.{at, count, soundBy, Turn, close, stepOf, finishOf}
+use Rattle.writing.specs.Stream.{at, count, Turn, close, stepOf, finishOf}
 use Rattle.writing.specs.Numbers.{stepNumbers, finishNumbers}
 use Rattle.writing.specs.Moment.{After}
 use Rattle.reading.specs.Buffer.{filled}
@@ -26,53 +22,19 @@ use Rattle.spelling.specs.declared.Why.{Why}
 use Rattle.spelling.specs.declared.Why.the-variants as W
 use Rattle.writing.specs.declared.Status.{Status}
 use Rattle.writing.specs.declared.Status.the-variants as U
-use Rattle.writing.specs.declared.Went.{Went}
 use Rattle.writing.specs.declared.Ran.{Ran}
 use Rattle.writing.specs.declared.Writer.{Writer}
 use Rattle.writing.specs.declared.Stepped.{Stepped}
 
 -- ---- between the functions
 
--- what the loop asks: the table, the width, numbers that a source gives, and a piece that keeps within the limit
-pub record Spells (t : List ℕ) (a b n held : ℕ) (piece : List ℕ) : Type 0 where
-  pub table : t ≡ digitEntries
-  pub width : b ≡ bits a
-  pub sound : Sound a n held
-  pub within : writtenLength a (n + length piece) ≤ limit
-
--- of loose bits h the few low ones are held
-abbrev pub leaving : ℕ → ℕ → ℕ → ℕ → Went
-leaving h few n m = record { held = h % 2 ^ few; taken = n; written = m }
-
--- where a run came to, and the buffer o, o' at entry and exit, are what the definition gives
-pub record WentAs (R : Run) (r : Went) (o o' : List ℕ) : Type 0 where
-  pub held : r .held ≡ R .held
-  pub taken : r .taken ≡ R .took
-  pub written : r .written ≡ length (R .wrote)
-  pub buffer : o' ≡ filled (R .wrote) o
-
--- the same with why it stopped
+-- a run's answer r, and the buffer o, o' at entry and exit, are what the definition gives
 pub record RanAs (R : Run) (r : Ran) (o o' : List ℕ) : Type 0 where
   pub held : r .held ≡ R .held
   pub why : r .why ≡ R .why
   pub taken : r .taken ≡ R .took
   pub written : r .written ≡ length (R .wrote)
   pub buffer : o' ≡ filled (R .wrote) o
-
--- whether a call goes on: calls give the state, and it is open
-unfoldable pub goesOn : ℕ → ℕ → ℕ → Status → Bool
-goesOn a n held U.Open = soundBy a n held U.Open
-goesOn a n held U.TooLong = false
-goesOn a n held U.Done = false
-
--- what is told where it does not: 9, then 10, then the earlier refusal
-abbrev pub standing : Status → ℕ → Kind
-standing U.Open n = K.Finished
-standing U.TooLong n = K.TooLong (at n)
-standing U.Done n = K.Finished
-
-unfoldable pub standsBefore : ℕ → ℕ → ℕ → Status → Kind
-standsBefore a n held u = cond (soundBy a n held u) (standing u n) K.BadState
 
 -- what a call gives, as the code returns it
 abbrev pub given : Writer → Outcome → ℕ → Stepped
@@ -87,15 +49,10 @@ statusBy W.All = U.Open
 statusBy W.Limit = U.TooLong
 statusBy W.Room = U.Open
 
-abbrev pub kindBy : Why → ℕ → Kind
-kindBy W.All n = K.Finished
-kindBy W.Limit n = K.TooLong (at n)
-kindBy W.Room n = K.NoRoom (at n)
-
 abbrev pub outcomeBy : Why → ℕ → ℕ → Outcome
 outcomeBy W.All n m = O.Accepted (at n) (count m)
-outcomeBy W.Limit n m = O.Refused (kindBy W.Limit n) (count m)
-outcomeBy W.Room n m = O.Refused (kindBy W.Room n) (count m)
+outcomeBy W.Limit n m = O.Refused (K.TooLong (at n)) (count m)
+outcomeBy W.Room n m = O.Refused (K.NoRoom (at n)) (count m)
 
 abbrev pub ranAs : ℕ → ℕ → Ran → Stepped
 ranAs a n r =

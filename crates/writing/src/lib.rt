@@ -1,4 +1,4 @@
-// The writer: the written form of a source, whole and as a stream by value. Here stand the types and the one loop that both share.
+// The writer: the written form of a source, whole and as a stream by value. Here stand the types and what both share.
 mod stream; // stream.rt: start, step and finish by value
 mod whole; // whole.rt: the whole call
 
@@ -12,7 +12,7 @@ ghost use mathlib.Core.Path.{_≡_};
 ghost use Prim.Native.Nat.{_+_, _*_, _/_, _%_, _^_, _<_, _≤_};
 ghost use lib.ListN.{length, replicate};
 ghost use lib.Seq.{paste};
-ghost use Rattle.alphabet.specs.Alphabet.{bits, digit, pad};
+ghost use Rattle.alphabet.specs.Alphabet.{pad};
 ghost use Rattle.alphabet.specs.Table.{digitEntries};
 ghost use Rattle.alphabet.specs.Written.{writtenLength};
 ghost use Rattle.reading.specs.Limit.{limit};
@@ -20,7 +20,7 @@ ghost use Rattle.spelling.specs.Front.{ending};
 ghost use Rattle.spelling.specs.Machine as machine;
 ghost use Rattle.spelling.specs.Machine.{whyAt};
 ghost use Rattle.spelling.specs.Sound.{Sound};
-ghost use Rattle.writing.specs.Contracts.{Spells, leaving, WentAs, RanAs};
+ghost use Rattle.writing.specs.Contracts.{RanAs};
 
 // Whether a writer goes on, refused a byte for the limit, or is finished.
 pub enum Status {
@@ -79,109 +79,6 @@ fn written_len(alphabet: usize, n: usize) -> usize
     }
 }
 
-// What a run of bytes came to: the bits held, the bytes of the source taken and the digits written.
-struct Went {
-    held: u8,
-    taken: usize,
-    written: usize,
-}
-
-// The b bits that stand above the k low bits of z.
-fn value(z: usize, k: usize, b: usize) -> u8
-    requires { ⌜ (k < 16) × (b ≤ 6) ⌝ }
-    ensures { λ v. ⌜ v ≡ z / 2 ^ k % 2 ^ b ⌝ }
-{
-    ((z >> k) & ((1 << b) - 1)) as u8
-}
-
-// Their digit.
-fn digit_above(t: &[u8; 384], alphabet: usize, z: usize, k: usize, b: usize) -> u8
-    requires { ⌜ (now t ≡ digitEntries) × (alphabet < 6) × (b ≡ bits alphabet) × (k < 16) ⌝ }
-    ensures { λ r. ⌜ r ≡ digit alphabet (z / 2 ^ k % 2 ^ b) ⌝ }
-{
-    alphabet::table::digit(t, alphabet, value(z, k, b))
-}
-
-// The few low bits of h are held.
-fn stopped(h: u8, few: usize, taken: usize, written: usize) -> Went
-    requires { ⌜ few ≤ 6 ⌝ }
-    ensures { λ r. ⌜ r ≡ leaving h few taken written ⌝ }
-{
-    let held = value(h as usize, 0, few);
-    Went {
-        held,
-        taken,
-        written,
-    }
-}
-
-// A piece within the limit into room, up to the first byte that lacks room. Of h only the few low bits count.
-fn spell(
-    t: &[u8; 384],
-    alphabet: usize,
-    b: usize,
-    taken: usize,
-    held: u8,
-    piece: &[u8],
-    out: &mut [u8],
-) -> Went
-    requires { ⌜ Spells (now t) alphabet b taken held (now piece) ⌝ }
-    ensures { λ r. ⌜ WentAs (machine.run alphabet taken held (now (piece .entry)) (length (now (out .entry)))) r (now (out .entry)) (now (out .exit)) ⌝ }
-{
-    let mut few = 8 * taken % b;
-    let mut h = held;
-    let mut i: usize = 0;
-    let mut n: usize = 0;
-    while i < piece.len() {
-        let z = (h as usize) * 256 + piece[i] as usize;
-        let k = few + 8 - b;
-        if k < b {
-            if n < out.len() {
-                out[n] = digit_above(t, alphabet, z, k, b);
-                n += 1;
-                few = k;
-                h = (z % 256) as u8;
-                i += 1;
-            } else {
-                return stopped(h, few, i, n);
-            }
-        } else {
-            let m = n + 1;
-            if m < out.len() {
-                let l = k - b;
-                out[n] = digit_above(t, alphabet, z, k, b);
-                out[m] = digit_above(t, alphabet, z, l, b);
-                n = m + 1;
-                few = l;
-                h = (z % 256) as u8;
-                i += 1;
-            } else {
-                return stopped(h, few, i, n);
-            }
-        }
-    }
-    stopped(h, few, i, n)
-}
-
-// The same with the width as a constant, so that the loop is compiled for each; digits of four bits leave nothing held.
-fn spelled(
-    t: &[u8; 384],
-    alphabet: usize,
-    taken: usize,
-    held: u8,
-    piece: &[u8],
-    out: &mut [u8],
-) -> Went
-    requires { ⌜ Spells (now t) alphabet (bits alphabet) taken held (now piece) ⌝ }
-    ensures { λ r. ⌜ WentAs (machine.run alphabet taken held (now (piece .entry)) (length (now (out .entry)))) r (now (out .entry)) (now (out .exit)) ⌝ }
-{
-    match alphabet::sizes::bits(alphabet) {
-        6 => spell(t, alphabet, 6, taken, held, piece, out),
-        5 => spell(t, alphabet, 5, taken, held, piece, out),
-        _ => spell(t, alphabet, 4, taken, 0, piece, out),
-    }
-}
-
 // Why a run stopped that took so many bytes of a piece of so many, cut at the limit.
 fn why_at(taken: usize, end: usize, len: usize) -> Why
     ensures { λ r. ⌜ r ≡ whyAt taken end len ⌝ }
@@ -196,12 +93,12 @@ fn why_at(taken: usize, end: usize, len: usize) -> Why
 }
 
 // A piece into room: it is cut at the limit, and the room is asked at each byte.
-fn run(t: &[u8; 384], alphabet: usize, taken: usize, held: u8, piece: &[u8], out: &mut [u8]) -> Ran
-    requires { ⌜ (now t ≡ digitEntries) × Sound alphabet taken held ⌝ }
+fn run(alphabet: usize, taken: usize, held: u8, piece: &[u8], out: &mut [u8]) -> Ran
+    requires { ⌜ Sound alphabet taken held ⌝ }
     ensures { λ r. ⌜ RanAs (machine.run alphabet taken held (now (piece .entry)) (length (now (out .entry)))) r (now (out .entry)) (now (out .exit)) ⌝ }
 {
     let end = least(piece.len(), spelling::longest(alphabet) - taken);
-    let w = spelled(t, alphabet, taken, held, &piece[..end], out);
+    let w = spell::spelled(alphabet, taken, held, &piece[..end], out);
     let took = w.taken;
     let why = why_at(took, end, piece.len());
     Ran {

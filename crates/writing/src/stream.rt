@@ -13,11 +13,8 @@ use spelling::Why;
 ghost use mathlib.Core.Path.{_≡_};
 ghost use Prim.Native.Nat.{_+_, _^_, _<_};
 ghost use Rattle.writing.specs.Stream as stream;
-ghost use Rattle.writing.specs.Stream.{at, count};
-ghost use Rattle.answer.specs.declared.Kind.the-variants as K;
-ghost use Rattle.answer.specs.declared.Outcome.the-variants as O;
 ghost use Rattle.spelling.specs.Sound.{Sound};
-ghost use Rattle.writing.specs.Contracts.{goesOn, standsBefore, given, asStepped, statusBy, kindBy, outcomeBy, ranAs, opened, SteppedAs, ClosedAs, FinishedAs};
+ghost use Rattle.writing.specs.Contracts.{given, asStepped, ranAs, SteppedAs, ClosedAs, FinishedAs};
 
 // Whether calls give a state with these numbers; a refusal for the limit stands only after the longest source.
 fn sound(alphabet: usize, taken: usize, held: u8, status: Status) -> bool
@@ -31,31 +28,6 @@ fn sound(alphabet: usize, taken: usize, held: u8, status: Status) -> bool
         };
     }
     false
-}
-
-// Whether a call goes on: calls give the state, and it is open.
-fn goes_on(alphabet: usize, taken: usize, held: u8, status: Status) -> bool
-    ensures { λ r. ⌜ r ≡ goesOn alphabet taken held status ⌝ }
-{
-    match status {
-        Status::Open => sound(alphabet, taken, held, status),
-        Status::TooLong => false,
-        Status::Done => false,
-    }
-}
-
-// What else is told: 9, then 10, then the earlier refusal.
-fn stands_before(alphabet: usize, taken: usize, held: u8, status: Status) -> Kind
-    ensures { λ r. ⌜ r ≡ standsBefore alphabet taken held status ⌝ }
-{
-    if sound(alphabet, taken, held, status) {
-        return match status {
-            Status::TooLong => Kind::TooLong(Place(taken)),
-            Status::Open => Kind::Finished,
-            Status::Done => Kind::Finished,
-        };
-    }
-    Kind::BadState
 }
 
 fn gave(state: Writer, outcome: Outcome, took: usize) -> Stepped
@@ -77,66 +49,36 @@ fn unmoved(state: Writer, kind: Kind) -> Stepped
     gave(state, Outcome::Refused(kind, Count(0)), 0)
 }
 
-// A call that does not go on.
-fn barred(state: Writer) -> Stepped
-    ensures { λ r. ⌜ r ≡ asStepped (stream.unmoved state (standsBefore (state .alphabet) (state .taken) (state .held) (state .status))) ⌝ }
-{
-    let status = state.status;
-    let kind = stands_before(state.alphabet, state.taken, state.held, status);
-    unmoved(state, kind)
-}
-
-// What a run's end makes of the state, and its answer.
-fn status_by(why: Why) -> Status
-    ensures { λ r. ⌜ r ≡ statusBy why ⌝ }
-{
-    match why {
-        Why::All => Status::Open,
-        Why::Limit => Status::TooLong,
-        Why::Room => Status::Open,
-    }
-}
-
-fn outcome_by(why: Why, taken: usize, written: usize) -> Outcome
-    ensures { λ r. ⌜ r ≡ outcomeBy why taken written ⌝ }
-{
-    match why {
-        Why::All => Outcome::Accepted(Place(taken), Count(written)),
-        Why::Limit => refused_by(why, taken, written),
-        Why::Room => refused_by(why, taken, written),
-    }
-}
-
-fn refused_by(why: Why, taken: usize, written: usize) -> Outcome
-    ensures { λ r. ⌜ r ≡ O.Refused (kindBy why taken) (count written) ⌝ }
-{
-    Outcome::Refused(kind_by(why, taken), Count(written))
-}
-
-fn kind_by(why: Why, taken: usize) -> Kind
-    ensures { λ r. ⌜ r ≡ kindBy why taken ⌝ }
-{
-    match why {
-        Why::All => Kind::Finished,
-        Why::Limit => Kind::TooLong(Place(taken)),
-        Why::Room => Kind::NoRoom(Place(taken)),
-    }
-}
-
 // What a run gives as a step: the state anew, and the answer by why it stopped.
 fn as_step(alphabet: usize, before: usize, r: Ran) -> Stepped
     requires { ⌜ before + r .taken < 2 ^ 64 ⌝ }
     ensures { λ x. ⌜ x ≡ ranAs alphabet before r ⌝ }
 {
-    let taken = before + r.taken;
-    let why = r.why;
+    let took = r.taken;
+    let taken = before + took;
+    let held = r.held;
+    let place = Place(taken);
+    let count = Count(r.written);
     let state = Writer {
         alphabet,
         taken,
-        held: r.held,
-        status: status_by(why),
+        held,
+        status: Status::Open,
     };
-    gave(state, outcome_by(why, taken, r.written), r.taken)
+    let why = r.why;
+    match why {
+        Why::All => gave(state, Outcome::Accepted(place, count), took),
+        Why::Room => gave(state, Outcome::Refused(Kind::NoRoom(place), count), took),
+        Why::Limit => {
+            let shut = Writer {
+                alphabet,
+                taken,
+                held,
+                status: Status::TooLong,
+            };
+            gave(shut, Outcome::Refused(Kind::TooLong(place), count), took)
+        }
+    }
 }
 
 impl Writer {
@@ -161,12 +103,17 @@ impl Writer {
         let taken = self.taken;
         let held = self.held;
         let status = self.status;
-        if goes_on(alphabet, taken, held, status) {
-            let t = alphabet::table::digits();
-            let r = super::run(&t, alphabet, taken, held, piece, out);
-            return as_step(alphabet, taken, r);
+        if sound(alphabet, taken, held, status) {
+            return match status {
+                Status::Open => {
+                    let r = super::run(alphabet, taken, held, piece, out);
+                    as_step(alphabet, taken, r)
+                }
+                Status::TooLong => unmoved(self, Kind::TooLong(Place(taken))),
+                Status::Done => unmoved(self, Kind::Finished),
+            };
         }
-        barred(self)
+        unmoved(self, Kind::BadState)
     }
 
     pub fn finish(self, out: &mut [u8]) -> Stepped
@@ -176,10 +123,14 @@ impl Writer {
         let taken = self.taken;
         let held = self.held;
         let status = self.status;
-        if goes_on(alphabet, taken, held, status) {
-            return closed(alphabet, taken, held, out);
+        if sound(alphabet, taken, held, status) {
+            return match status {
+                Status::Open => closed(alphabet, taken, held, out),
+                Status::TooLong => unmoved(self, Kind::TooLong(Place(taken))),
+                Status::Done => unmoved(self, Kind::Finished),
+            };
         }
-        barred(self)
+        unmoved(self, Kind::BadState)
     }
 }
 
@@ -188,35 +139,24 @@ fn closed(alphabet: usize, taken: usize, held: u8, out: &mut [u8]) -> Stepped
     requires { ⌜ Sound alphabet taken held ⌝ }
     ensures { λ r. ⌜ ClosedAs alphabet taken held (now (out .entry)) (now (out .exit)) r ⌝ }
 {
+    let place = Place(taken);
     let need = super::written_len(alphabet, taken) - 8 * taken / alphabet::sizes::bits(alphabet);
     if out.len() < need {
-        return lacking(alphabet, taken, held);
+        let state = Writer {
+            alphabet,
+            taken,
+            held,
+            status: Status::Open,
+        };
+        return unmoved(state, Kind::NoRoom(place));
     }
     let t = alphabet::table::digits();
     super::put_ending(&t, alphabet, taken, held, 0, out);
-    done(alphabet, taken, held, need)
-}
-
-fn lacking(alphabet: usize, taken: usize, held: u8) -> Stepped
-    ensures { λ r. ⌜ r ≡ asStepped (stream.unmoved (opened alphabet taken held) (K.NoRoom (at taken))) ⌝ }
-{
-    let state = Writer {
-        alphabet,
-        taken,
-        held,
-        status: Status::Open,
-    };
-    unmoved(state, Kind::NoRoom(Place(taken)))
-}
-
-fn done(alphabet: usize, taken: usize, held: u8, need: usize) -> Stepped
-    ensures { λ r. ⌜ r ≡ given (stream.closed (opened alphabet taken held)) (O.Accepted (at taken) (count need)) 0 ⌝ }
-{
-    let state = Writer {
+    let done = Writer {
         alphabet,
         taken,
         held,
         status: Status::Done,
     };
-    gave(state, Outcome::Accepted(Place(taken), Count(need)), 0)
+    gave(done, Outcome::Accepted(place, Count(need)), 0)
 }

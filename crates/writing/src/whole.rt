@@ -27,9 +27,9 @@ fn put_form(alphabet: usize, src: &[u8], out: &mut [u8])
     requires { ⌜ FormFits alphabet (now src) (length (now out)) ⌝ }
     ensures { λ _. ⌜ now (out .exit) ≡ filled (written alphabet (now (src .entry))) (now (out .entry)) ⌝ }
 {
-    let t = alphabet::table::digits();
-    let r = super::run(&t, alphabet, 0, 0, src, out);
+    let r = super::run(alphabet, 0, 0, src, out);
     let held = r.held;
     let at = r.written;
+    let t = alphabet::table::digits();
     super::put_ending(&t, alphabet, src.len(), held, at, out)
 }

@@ -12,7 +12,7 @@ use Rattle.alphabet.specs.Table.{digitIn}
 use Rattle.alphabet.proofs.AlphabetLaws.{bits-low, bits-high}
 use Rattle.spelling.specs.Front.{ending}
 use Rattle.spelling.proofs.LengthLaws.{source-small}
-use Rattle.writing.proofs.Lent.{digit-of}
+use Rattle.spelling.proofs.Lent.{digit-of}
 use Rattle.spelling.proofs.EndingLaws.{ending-none, whole-length, ending-is, some-ending, value-lt, paste-none, laid}
 use Rattle.writing.proofs.put_ending.Statement.{statement}
 use Rattle.writing.proofs.put_ending.Tie as tie

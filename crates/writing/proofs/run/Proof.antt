@@ -1,9 +1,8 @@
 -- The piece, cut at the limit, meets the definition of a run. Assumes nothing.
-use mathlib.Core.Path.{refl, sym}
+use mathlib.Core.Path.{sym}
 use lib.Seq.{length-take-le}
 use borrow.Author.Needs.{needs}
 use Rattle.spelling.proofs.LengthLaws.{longest-known, within-most}
-use Rattle.spelling.proofs.CutRuns.{part-within}
 use Rattle.writing.proofs.CutRan.{cut-ran}
 use Rattle.writing.proofs.run.Statement.{statement}
 use Rattle.writing.proofs.run.Tie as tie
@@ -14,7 +13,7 @@ longest-requires c κs = search needs
 sub-least : tie.Need-sub-least
 sub-least c =
     let s = c .before .before .before in
-    rw (c .longest .ensures, longest-known (s .args .alphabet) (s .pre .1 .known)) (within-most (s .args .alphabet) (s .pre .1 .known) (s .args .taken) .0 (s .pre .1 .within))
+    rw (c .longest .ensures, longest-known (s .args .alphabet) (s .pre .known)) (within-most (s .args .alphabet) (s .pre .known) (s .args .taken) .0 (s .pre .within))
 
 least-requires : tie.Need-least-requires
 least-requires c κs = search needs
@@ -23,10 +22,7 @@ slice-aggregate-spelled : tie.Need-slice-aggregate-spelled
 slice-aggregate-spelled c = sym (length-take-le _ _ (c .before .least .ensures .0))
 
 spelled-requires : tie.Need-spelled-requires
-spelled-requires c κs =
-    let e = c .before .before in
-    let s = e .before .before .before .before in
-    record { table = s .pre .0; width = refl; sound = s .pre .1; within = part-within _ _ _ (s .pre .1) _ (rw (e .before .longest .ensures) at (e .least .ensures)) }
+spelled-requires c κs = search needs
 
 why-at-requires : tie.Need-why-at-requires
 why-at-requires c κs = search needs
@@ -39,7 +35,7 @@ returns c =
     let w = c .before .before .before in
     let e = w .before .before .before in
     let s = e .before .before .before .before in
-    cut-ran _ _ _ (s .pre .1) _ (rw (e .before .longest .ensures) at (e .least .ensures)) (w .spelled .ensures) (c .why-at .ensures)
+    cut-ran _ _ _ (s .pre) _ (rw (e .before .longest .ensures) at (e .least .ensures)) (w .spelled .ensures) (c .why-at .ensures)
 
 pub run-spec : {M : Type 1} → statement M
 run-spec =

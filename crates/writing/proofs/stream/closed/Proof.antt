@@ -38,11 +38,11 @@ sub-need c =
     let s = c .before .before .before in
     rw (c .bits .ensures, c .before .written-len .ensures) (omega (arith, ending-length (s .args .alphabet) (s .args .taken) (s .args .held) (s .pre .known)))
 
-lacking-requires : tie.Need-lacking-requires
-lacking-requires c κs = search needs
+unmoved-requires : tie.Need-unmoved-requires
+unmoved-requires c κs = search needs
 
 returns : tie.Need-returns
-returns c = closed-short _ _ _ _ (need (c .before .before)) _ (c .before .if1 .taken) (c .lacking .ensures)
+returns c = closed-short _ _ _ _ (need (c .before .before)) _ (c .before .if1 .taken) (c .unmoved .ensures)
 
 digits-requires : tie.Need-digits-requires
 digits-requires c κs = search needs
@@ -52,8 +52,8 @@ put-ending-requires c κs =
     let b = c .before .before .before .before in
     ((c .before .before .digits .ensures, b .before .before .before .pre), rw (zero-add, ← need b) (c .before .before .before .if1 .left))
 
-done-requires : tie.Need-done-requires
-done-requires c κs = search needs
+gave-requires : tie.Need-gave-requires
+gave-requires c κs = search needs
 
 same-length : tie.Need-same-length
 same-length c = search needs
@@ -62,7 +62,7 @@ returns-2 : tie.Need-returns-2
 returns-2 c =
     let e = c .before .before .before in
     let f = e .before .before .before .before in
-    closed-done _ _ _ _ (need (f .before)) _ _ (f .if1 .left) (e .put-ending .ensures) (c .done .ensures)
+    closed-done _ _ _ _ (need (f .before)) _ _ (f .if1 .left) (e .put-ending .ensures) (c .gave .ensures)
 
 pub closed-spec : {M : Type 1} → statement M
 closed-spec =
@@ -73,10 +73,10 @@ closed-spec =
     bits-requires
     div-need
     sub-need
-    lacking-requires
+    unmoved-requires
     returns
     digits-requires
     put-ending-requires
-    done-requires
+    gave-requires
     same-length
     returns-2)

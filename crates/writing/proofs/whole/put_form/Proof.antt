@@ -7,20 +7,20 @@ use borrow.Author.Needs.{needs}
 use Rattle.writing.proofs.whole.put_form.Statement.{statement}
 use Rattle.writing.proofs.whole.put_form.Tie as tie
 
+run-requires : tie.Need-run-requires
+run-requires c κs =
+    let s = c .before .before .before in
+    record { known = s .pre .known; within = none-within (s .args .alphabet) (s .pre .known); small = pow-pos _ }
+
 digits-requires : tie.Need-digits-requires
 digits-requires c κs = search needs
 
-run-requires : tie.Need-run-requires
-run-requires c κs =
-    let s = c .before .before .before .before .before in
-    (c .before .before .digits .ensures, record { known = s .pre .known; within = none-within (s .args .alphabet) (s .pre .known); small = pow-pos _ })
-
 put-ending-requires : tie.Need-put-ending-requires
 put-ending-requires c κs =
-    let u = c .before .before .before .before in
-    let s = u .before .before .before .before .before .before in (
-      (u .before .before .before .digits .ensures, source-sound _ (s .pre .known) _ _ _ _ (s .pre .within) (s .pre .roomy) (u .run .ensures)),
-      rw (u .run .kept .1 .1 .1 .1 .1 .0) (room-for-ending _ (s .pre .known) _ _ _ _ (s .pre .within) (s .pre .roomy) (u .run .ensures)),
+    let u = c .before .before .before .before .before in
+    let s = u .before .before .before .before in (
+      (c .before .before .digits .ensures, source-sound _ (s .pre .known) _ _ _ _ (s .pre .within) (s .pre .roomy) (u .run .ensures)),
+      rw (u .run .kept .1 .1 .1 .1 .0) (room-for-ending _ (s .pre .known) _ _ _ _ (s .pre .within) (s .pre .roomy) (u .run .ensures)),
     )
 
 same-length : tie.Need-same-length
@@ -28,10 +28,10 @@ same-length c = search needs
 
 returns : tie.Need-returns
 returns c =
-    let u = c .before .before .before .before .before .before .before in
-    let s = u .before .before .before .before .before .before in
+    let u = c .before .before .before .before .before .before .before .before in
+    let s = u .before .before .before .before in
     c .before .before .put-ending .ensures ∙ whole-laid _ (s .pre .known) _ _ _ _ (s .pre .within) (s .pre .roomy) (u .run .ensures)
 
 pub put-form-spec : {M : Type 1} → statement M
 put-form-spec =
-    tie.close (tie.spec digits-requires run-requires put-ending-requires same-length returns)
+    tie.close (tie.spec run-requires digits-requires put-ending-requires same-length returns)

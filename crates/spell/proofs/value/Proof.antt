@@ -6,8 +6,8 @@ use lib.Pow.{pow-pos, pow-mono}
 use Rattle.alphabet.proofs.RegroupLaws.{rest-lt}
 use Rattle.alphabet.proofs.Shifts.{one-shifted, masked}
 use borrow.Author.Needs.{needs}
-use Rattle.writing.proofs.value.Statement.{statement}
-use Rattle.writing.proofs.value.Tie as tie
+use Rattle.spell.proofs.value.Statement.{statement}
+use Rattle.spell.proofs.value.Tie as tie
 
 shr-result : tie.Need-shr-result
 shr-result c = search needs

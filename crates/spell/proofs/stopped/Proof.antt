@@ -1,8 +1,8 @@
 -- The few low bits are held. Assumes nothing.
 use native.Mathlib.Nat.{div-one}
 use borrow.Author.Needs.{needs}
-use Rattle.writing.proofs.stopped.Statement.{statement}
-use Rattle.writing.proofs.stopped.Tie as tie
+use Rattle.spell.proofs.stopped.Statement.{statement}
+use Rattle.spell.proofs.stopped.Tie as tie
 
 value-requires : tie.Need-value-requires
 value-requires c κs = search needs

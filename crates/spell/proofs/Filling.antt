@@ -10,7 +10,7 @@ use lib.ListN.{length, take, drop, set, length-set, take-append-drop}
 use lib.Seq.{take-suc-set, drop-set-lt, length-take-le, drop-drop}
 use Rattle.spelling.specs.declared.Why.{Why}
 use Rattle.spelling.specs.Machine.{Run, after, stop}
-use Rattle.writing.specs.Contracts.{WentAs}
+use Rattle.spell.specs.Contracts.{WentAs}
 
 pub record Filling (R : Run) (out₀ out : List ℕ) (i n : ℕ) (todo : Run) : Type 0 where
   pub room : n ≤ length out₀

@@ -1,16 +1,16 @@
--- The loop over a piece within the limit meets the definition of a run. Assumes nothing.
+-- The loop over a piece meets the definition of a run. Assumes nothing.
 use Prim.Native.Nat.{ℕ, _+_, _-_, _*_, _<_, _≤_}
 use mathlib.Core.Path.{_≡_, refl}
+use native.Mathlib.Nat.{mod-lt}
 use native.Mathlib.Omega.{arith}
 use lib.ListN.{length, getD}
 use Rattle.alphabet.specs.Alphabet.{bits}
 use Rattle.alphabet.specs.Table.{digitEntries}
-use Rattle.alphabet.proofs.AlphabetLaws.{bits-low}
+use Rattle.alphabet.proofs.AlphabetLaws.{bits-low, bits-high}
 use borrow.Author.Needs.{needs}
-use Rattle.spelling.proofs.LengthLaws.{source-small}
-use Rattle.writing.proofs.Going.{Going, begins, ends, sizes, none-fits, two-lack, took-one, took-two}
-use Rattle.writing.proofs.spell.Statement.{statement}
-use Rattle.writing.proofs.spell.Tie as tie
+use Rattle.spell.proofs.Going.{Going, begins, ends, sizes, none-fits, two-lack, took-one, took-two}
+use Rattle.spell.proofs.spell.Statement.{statement}
+use Rattle.spell.proofs.spell.Tie as tie
 
 abbrev Inv-loop : tie.InvT-loop
 Inv-loop t alphabet b taken held piece out₀ few₀ h₀ i₀ n₀ out few h i n = Going t alphabet b taken held piece out₀ out few h i n
@@ -24,17 +24,21 @@ byte-lt c = omega (arith, c .shared-slice-known2 .given (c .before .before .loop
 asks-digit : (c : tie.After-shared-slice-known2 Inv-loop μ-loop) {k : ℕ} → k < 16
     → (let s = c .before .before .before .before .before in
     (s .args .t .now ≡ digitEntries) × (s .args .alphabet < 6) × (s .args .b ≡ bits (s .args .alphabet)) × (k < 16))
-asks-digit c l = let s = c .before .before .before .before .before .pre in (s .table, s .sound .known, s .width, l)
+asks-digit c l = let s = c .before .before .before .before .before .pre in (s .table, s .known, s .width, l)
 
-mul-few : tie.Need-mul-few Inv-loop μ-loop
-mul-few c =
+wide : (c : tie.After-slice-known Inv-loop μ-loop) → (0 < c .before .before .args .b) × (c .before .before .args .b ≤ 6)
+wide c =
     let s = c .before .before in
-    omega (arith, source-small (s .args .alphabet) (s .pre .sound .known) (s .args .taken) (s .pre .sound .within))
+    (omega (arith, rw (← s .pre .width) at (bits-low (s .args .alphabet) (s .pre .known))), rw (s .pre .width) (bits-high (s .args .alphabet) (s .pre .known)))
 
 rem-few : tie.Need-rem-few Inv-loop μ-loop
-rem-few c =
-    let s = c .before .before in
-    omega (arith, rw (← s .pre .width) at (bits-low (s .args .alphabet) (s .pre .sound .known)))
+rem-few c = wide c .0
+
+mul-few : tie.Need-mul-few Inv-loop μ-loop
+mul-few c = omega (arith, wide c .1, mod-lt (c .before .before .args .taken) (wide c .0))
+
+rem-few-2 : tie.Need-rem-few-2 Inv-loop μ-loop
+rem-few-2 c = wide c .0
 
 loop-holds : tie.Need-loop-holds Inv-loop μ-loop
 loop-holds c = begins (c .before .before .args .out .now) (c .before .before .pre) (omega arith) refl
@@ -155,8 +159,9 @@ spell-spec =
     (tie.spec
     Inv-loop
     μ-loop
-    mul-few
     rem-few
+    mul-few
+    rem-few-2
     loop-holds
     cast-z
     mul-z

@@ -4,10 +4,10 @@ use native.Mathlib.Omega.{arith}
 use Rattle.alphabet.specs.Table.{digitIn}
 use Rattle.alphabet.proofs.AlphabetLaws.{bits-high}
 use Rattle.alphabet.proofs.RegroupLaws.{rest-lt}
-use Rattle.writing.proofs.Lent.{digit-of}
+use Rattle.spelling.proofs.Lent.{digit-of}
 use borrow.Author.Needs.{needs}
-use Rattle.writing.proofs.digit_above.Statement.{statement}
-use Rattle.writing.proofs.digit_above.Tie as tie
+use Rattle.spell.proofs.digit_above.Statement.{statement}
+use Rattle.spell.proofs.digit_above.Tie as tie
 
 value-requires : tie.Need-value-requires
 value-requires c κs = (c .pre .3, rw (c .pre .2) (bits-high (c .args .alphabet) (c .pre .1)))
