@@ -16,6 +16,7 @@ pub mod Vectors
 pub mod Shifts
 pub mod TableLaws
 pub mod RegroupLaws
+pub mod Loose
 pub mod Edges
 pub mod Parting
 pub mod StepLaws

@@ -1,17 +1,16 @@
 // The loops over a piece: into a second buffer, in place, and counting alone. Each takes the table once, and asks `on_digit` for a byte that
 // is a digit as it stands and `rare` for any other, so that the common byte costs no call.
 use crate::choice::allowed;
+use crate::digits::pass;
 use crate::rule::Cause;
 use crate::rule::Core;
 use crate::rule::Took;
-use crate::rule::on_digit;
 use crate::rule::rare;
-use alphabet::table::Symbol;
 pub use reading::limit;
 ghost use Prim.Native.Nat.{_<_, _≤_};
 ghost use mathlib.Core.Path.{_≡_};
 ghost use mathlib.Core.Bool.{true};
-ghost use lib.ListN.{length};
+ghost use lib.ListN.{length, take};
 ghost use Rattle.alphabet.specs.Table.{entries};
 ghost use Rattle.reading.specs.Options as Options;
 ghost use Rattle.reading.specs.Limit as Limit;
@@ -20,6 +19,7 @@ ghost use Rattle.engine.specs.Meaning.{stateOf};
 ghost use Rattle.engine.specs.Ran as Spec;
 ghost use Rattle.reading.specs.Buffer.{filled};
 ghost use Rattle.engine.specs.Ran.{Ready, ranAs};
+ghost use Rattle.engine.specs.Loop.{Part};
 
 // Why a run over a piece stopped. Unfit: the choice or the state is none that reading starts from, and nothing was done.
 pub enum Why {
@@ -49,6 +49,17 @@ pub fn fresh() -> Core
     }
 }
 
+fn stopped(core: Core, why: Why, took: usize, wrote: usize) -> Ran
+    ensures { λ r. ⌜ r ≡ record { core = core; why = why; took = took; wrote = wrote } ⌝ }
+{
+    Ran {
+        core,
+        why,
+        took,
+        wrote,
+    }
+}
+
 fn fill(
     t: &[u8; 1536],
     alphabet: usize,
@@ -63,142 +74,99 @@ fn fill(
     ensures { λ r. ⌜ r ≡ ranAs (Piece.run alphabet options (now (piece .entry)) (stateOf start) (length (now (out .entry)))) ⌝ }
     ensures { λ r. ⌜ now (out .exit) ≡ filled (Piece.run alphabet options (now (piece .entry)) (stateOf start) (length (now (out .entry))) .wrote) (now (out .entry)) ⌝ }
 {
-    let b = alphabet::sizes::bits(alphabet);
     let mut k = start;
     let mut i: usize = 0;
     let mut n: usize = 0;
     while i < piece.len() {
-        let byte = piece[i];
-        match alphabet::table::lookup(t, alphabet, byte) {
-            Symbol::Digit(v) => match on_digit(alphabet, b, k, v) {
+        let p = pass(t, alphabet, k, &piece[i..], &mut out[n..]);
+        k = p.core;
+        i += p.took;
+        n += p.wrote;
+        if i < piece.len() {
+            match rare(t, alphabet, options, k, piece[i]) {
                 Took::Takes(c) => {
                     k = c;
                     i += 1;
                 }
                 Took::Gives(x, c) => {
                     if n == out.len() {
-                        return Ran {
-                            core: k,
-                            why: Why::Full,
-                            took: i,
-                            wrote: n,
-                        };
+                        return stopped(k, Why::Full, i, n);
                     }
                     out[n] = x; // n is below the room
                     n += 1;
                     k = c;
                     i += 1;
                 }
-                Took::Refuses(e) => {
-                    return Ran {
-                        core: k,
-                        why: Why::Refused(e),
-                        took: i,
-                        wrote: n,
-                    };
-                }
-            },
-            _ => match rare(t, alphabet, options, k, byte) {
-                Took::Takes(c) => {
-                    k = c;
-                    i += 1;
-                }
-                Took::Gives(x, c) => {
-                    if n == out.len() {
-                        return Ran {
-                            core: k,
-                            why: Why::Full,
-                            took: i,
-                            wrote: n,
-                        };
-                    }
-                    out[n] = x;
-                    n += 1;
-                    k = c;
-                    i += 1;
-                }
-                Took::Refuses(e) => {
-                    return Ran {
-                        core: k,
-                        why: Why::Refused(e),
-                        took: i,
-                        wrote: n,
-                    };
-                }
-            },
+                Took::Refuses(e) => return stopped(k, Why::Refused(e), i, n),
+            }
         }
     }
-    Ran {
-        core: k,
-        why: Why::All,
-        took: i,
-        wrote: n,
+    stopped(k, Why::All, i, n)
+}
+
+// The end of the part that begins at i and has at most 256 bytes.
+fn part_end(i: usize, len: usize) -> usize
+    requires { ⌜ i < len ⌝ }
+    ensures { λ e. ⌜ Part i e len ⌝ }
+{
+    if len - i <= 256 {
+        return len;
+    }
+    i + 256
+}
+
+// Whether a run stopped before the piece's end.
+fn stops(why: Why) -> bool
+    ensures { λ r. ⌜ r ≡ Spec.stops why ⌝ }
+{
+    match why {
+        Why::All => false,
+        Why::Refused(_) => true,
+        Why::Full => true,
+        Why::Unfit => true,
     }
 }
 
-// Counting alone: room never lacks, since a byte needs more than one byte of text.
+// Counting alone: what a part gives is put aside, and room never lacks, since a byte needs more than one byte of text.
 fn tally(t: &[u8; 1536], alphabet: usize, options: usize, start: Core, text: &[u8]) -> Ran
     requires { ⌜ now t ≡ entries ⌝ }
     requires { ⌜ Options.allowed alphabet options ≡ true ⌝ }
     requires { ⌜ Ready alphabet start (length (now text)) ⌝ }
     ensures { λ r. ⌜ r ≡ ranAs (Piece.run alphabet options (now (text .entry)) (stateOf start) (length (now (text .entry)))) ⌝ }
 {
-    let b = alphabet::sizes::bits(alphabet);
+    let mut aside: [u8; 256] = [0; 256];
     let mut k = start;
     let mut i: usize = 0;
     let mut n: usize = 0;
     while i < text.len() {
-        let byte = text[i];
-        match alphabet::table::lookup(t, alphabet, byte) {
-            Symbol::Digit(v) => match on_digit(alphabet, b, k, v) {
-                Took::Takes(c) => {
-                    k = c;
-                    i += 1;
-                }
-                Took::Gives(_, c) => {
-                    n += 1;
-                    k = c;
-                    i += 1;
-                }
-                Took::Refuses(e) => {
-                    return Ran {
-                        core: k,
-                        why: Why::Refused(e),
-                        took: i,
-                        wrote: n,
-                    };
-                }
-            },
-            _ => match rare(t, alphabet, options, k, byte) {
-                Took::Takes(c) => {
-                    k = c;
-                    i += 1;
-                }
-                Took::Gives(_, c) => {
-                    n += 1;
-                    k = c;
-                    i += 1;
-                }
-                Took::Refuses(e) => {
-                    return Ran {
-                        core: k,
-                        why: Why::Refused(e),
-                        took: i,
-                        wrote: n,
-                    };
-                }
-            },
+        let e = part_end(i, text.len());
+        let r = fill(t, alphabet, options, k, &text[i..e], &mut aside);
+        let why = r.why;
+        k = r.core;
+        i += r.took;
+        n += r.wrote;
+        if stops(why) {
+            return stopped(k, why, i, n);
         }
     }
-    Ran {
-        core: k,
-        why: Why::All,
-        took: i,
-        wrote: n,
-    }
+    stopped(k, Why::All, i, n)
 }
 
-// In place: the index that is written never passes the one that is read.
+// The bytes of a part, put aside.
+fn copied(part: &[u8]) -> [u8; 256]
+    requires { ⌜ length (now part) ≤ 256 ⌝ }
+    ensures { λ r. ⌜ take (length (now (part .entry))) r ≡ now (part .entry) ⌝ }
+{
+    let mut aside: [u8; 256] = [0; 256];
+    let mut i: usize = 0;
+    while i < part.len() {
+        aside[i] = part[i];
+        i += 1;
+    }
+    aside
+}
+
+// In place: a part is put aside, and what it gives is stored over bytes that were read.
 fn settle(t: &[u8; 1536], alphabet: usize, options: usize, start: Core, buf: &mut [u8]) -> Ran
     requires { ⌜ now t ≡ entries ⌝ }
     requires { ⌜ Options.allowed alphabet options ≡ true ⌝ }
@@ -206,61 +174,23 @@ fn settle(t: &[u8; 1536], alphabet: usize, options: usize, start: Core, buf: &mu
     ensures { λ r. ⌜ r ≡ ranAs (Piece.run alphabet options (now (buf .entry)) (stateOf start) (length (now (buf .entry)))) ⌝ }
     ensures { λ r. ⌜ now (buf .exit) ≡ filled (Piece.run alphabet options (now (buf .entry)) (stateOf start) (length (now (buf .entry))) .wrote) (now (buf .entry)) ⌝ }
 {
-    let b = alphabet::sizes::bits(alphabet);
     let mut k = start;
     let mut i: usize = 0;
     let mut n: usize = 0;
     while i < buf.len() {
-        let byte = buf[i];
-        match alphabet::table::lookup(t, alphabet, byte) {
-            Symbol::Digit(v) => match on_digit(alphabet, b, k, v) {
-                Took::Takes(c) => {
-                    k = c;
-                    i += 1;
-                }
-                Took::Gives(x, c) => {
-                    buf[n] = x; // n is never past i
-                    n += 1;
-                    k = c;
-                    i += 1;
-                }
-                Took::Refuses(e) => {
-                    return Ran {
-                        core: k,
-                        why: Why::Refused(e),
-                        took: i,
-                        wrote: n,
-                    };
-                }
-            },
-            _ => match rare(t, alphabet, options, k, byte) {
-                Took::Takes(c) => {
-                    k = c;
-                    i += 1;
-                }
-                Took::Gives(x, c) => {
-                    buf[n] = x;
-                    n += 1;
-                    k = c;
-                    i += 1;
-                }
-                Took::Refuses(e) => {
-                    return Ran {
-                        core: k,
-                        why: Why::Refused(e),
-                        took: i,
-                        wrote: n,
-                    };
-                }
-            },
+        let e = part_end(i, buf.len());
+        let m = e - i;
+        let aside = copied(&buf[i..e]);
+        let r = fill(t, alphabet, options, k, &aside[..m], &mut buf[n..]); // n is never past i
+        let why = r.why;
+        k = r.core;
+        i += r.took;
+        n += r.wrote;
+        if stops(why) {
+            return stopped(k, why, i, n);
         }
     }
-    Ran {
-        core: k,
-        why: Why::All,
-        took: i,
-        wrote: n,
-    }
+    stopped(k, Why::All, i, n)
 }
 
 // Whether the held bits are as many as the digits leave.

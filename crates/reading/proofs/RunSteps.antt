@@ -10,7 +10,7 @@ use lib.Seq.{drop-cons}
 use Rattle.reading.specs.Reader.{State, Step, takes, gives, refuses, step}
 use Rattle.reading.specs.Piece.{Why, all, refused, full, Ran, stop, after, onStep, run}
 
-after-after : (i j : ℕ) (w v : List ℕ) (r : Ran) → after i w (after j v r) ≡ after (i + j) (w ++ v) r
+pub after-after : (i j : ℕ) (w v : List ℕ) (r : Ran) → after i w (after j v r) ≡ after (i + j) (w ++ v) r
 after-after i j w v r = simp (add-assoc, append-assoc)
 
 after-none : (r : Ran) → r ≡ after 0 [] r

@@ -42,11 +42,11 @@ module _ (a : ℕ) (h : a < 6) (s : State) (f : Sound a s) where
   bits-then : bits a * (s .digits + 1) ≡ bits a * s .digits + bits a
   bits-then = mul-add (bits a) (s .digits) 1 ∙ ap (λ (k : ℕ). bits a * s .digits + k) (mul-one (bits a))
 
-  held-then : heldBits a s + bits a < 8 → bits a * (s .digits + 1) % 8 ≡ heldBits a s + bits a
+  pub held-then : heldBits a s + bits a < 8 → bits a * (s .digits + 1) % 8 ≡ heldBits a s + bits a
   unfolding heldBits
   held-then l = omega (arith, bits-then)
 
-  left-then : 8 ≤ heldBits a s + bits a → bits a * (s .digits + 1) % 8 ≡ heldBits a s + bits a - 8
+  pub left-then : 8 ≤ heldBits a s + bits a → bits a * (s .digits + 1) % 8 ≡ heldBits a s + bits a - 8
   unfolding heldBits
   left-then l = omega (arith, bits-then, bits-high a h)
 

@@ -1,199 +1,167 @@
--- `piece::settle`: each turn of the loop takes a byte as the definition does, or stops as it does. Assumes nothing.
-use Prim.Native.Nat.{_-_, _<_}
-use mathlib.Core.Path.{_≡_, sym, ap, _∙_}
+-- `piece::settle`: each part is taken as the definition does, or it stops as it does. Assumes nothing.
+use Prim.Native.Nat.{ℕ, _+_, _-_, _<_, _≤_, _^_}
+use mathlib.Core.Path.{_≡_, sym, _∙_, subst}
+use mathlib.Core.List.{List}
 use native.Mathlib.Omega.{arith}
-use lib.ListN.{length, getD}
+use lib.ListN.{length, take, drop, length-take}
 use borrow.Author.Needs.{needs}
-use Rattle.reading.specs.Reader.{step}
+use borrow.Rule.Slice.PartMut.{same-len-mid}
+use Rattle.reading.proofs.LimitLaws.{limit-small}
 use Rattle.reading.proofs.OptionLaws.{allowed-alphabet}
-use Rattle.reading.proofs.StepCases.{Stands}
-use Rattle.engine.specs.Meaning.{stateOf, stepOf, Fit}
-use Rattle.engine.proofs.Bytes.{plain-digit}
-use Rattle.engine.proofs.Loops.{Inside, inside-begins, inside-reads, inside-in, inside-takes, inside-gives, same-size, filling-done, fit, loop-refused, loop-all}
+use Rattle.engine.specs.Ran.{Ready}
+use Rattle.engine.specs.Loop.{Part}
+use Rattle.engine.proofs.Loops.{loop-all}
+use Rattle.engine.proofs.Parts.{Settling, settling-begins, settling-size, settling-ends, settling-reads, settling-part, settling-whole, settling-fits, part-ready, counting-sums, counting-took, settling-goes, settling-stops, settling-done}
 use Rattle.engine.proofs.piece.settle.Statement.{statement}
 use Rattle.engine.proofs.piece.settle.Tie as tie
 
 abbrev Inv-loop : tie.InvT-loop
-Inv-loop t alphabet options buf₀ b k₀ i₀ n₀ buf k i n = Inside alphabet options buf₀ k₀ buf k i n
+Inv-loop t alphabet options buf₀ k₀ i₀ n₀ buf k i n = Settling alphabet options buf₀ k₀ buf k i n
 
 abbrev μ-loop : tie.MeasureT-loop
-μ-loop t alphabet options buf₀ b k₀ i₀ n₀ buf k i n = length buf₀ - i
+μ-loop t alphabet options buf₀ k₀ i₀ n₀ buf k i n = length buf₀ - i
 
 -- ---- what is known in a turn
 
 abbrev start : tie.At-loop Inv-loop μ-loop → tie.Start Inv-loop μ-loop
-start h = h .before .before .before
+start h = h .before .before
 
 known : (h : tie.At-loop Inv-loop μ-loop) → start h .args .alphabet < 6
 known h = allowed-alphabet _ _ (start h .pre .1 .0)
 
-inside : (b : tie.In-loop Inv-loop μ-loop) → b .before .loop .i < length (start (b .before) .args .buf .now)
-inside b = inside-in (known (b .before)) (b .before .loop .inv) (b .loop-test .taken)
+text-fits : (h : tie.At-loop Inv-loop μ-loop) → length (start h .args .buf .now) < 2 ^ 40
+text-fits h = omega (arith, start h .pre .1 .1 .within, limit-small)
 
-ready : (b : tie.In-loop Inv-loop μ-loop) → Fit (start (b .before) .args .alphabet) (b .before .loop .k)
-ready b = let h = b .before in fit (known h) (h .loop .inv .fill .loop) (start h .pre .1 .1) (inside b)
+-- the part that was put aside
+abbrev head : tie.After-copied Inv-loop μ-loop → tie.At-loop Inv-loop μ-loop
+head y = y .before .before .before .before .before
 
--- the byte is a digit as it stands
-digit : (v : tie.After-v Inv-loop μ-loop)
-    → let h = v .before .before .before .before .before in Stands (start h .args .alphabet) (start h .args .options) (stateOf (h .loop .k)) (getD (h .loop .buf) (h .loop .i) 0) (v .v .given .0 .0)
-digit v =
-    let l = v .before .before in
-    let b = l .before in
-    let h = b .before .before in
-    let s = start h in
-    plain-digit _ _ (getD (h .loop .buf) (h .loop .i) 0) (stateOf (h .loop .k)) (s .pre .0) (s .pre .1 .0) (omega (arith, b .slice-known2 .given (h .loop .i))) (sym (l .lookup .ensures) ∙ v .v .given .1)
+abbrev end : tie.After-copied Inv-loop μ-loop → ℕ
+end y = y .before .before .before .part-end .result
 
--- what the byte does, asked of `on_digit` or of `rare`
-by-digit : (m : tie.After-on-digit Inv-loop μ-loop)
-    → let h = m .before .before .before .before .before .before .before in stepOf (m .on-digit .result) ≡ step (start h .args .alphabet) (start h .args .options) (stateOf (h .loop .k)) (getD (start h .args .buf .now) (h .loop .i) 0)
-by-digit m =
-    let h = m .before .before .before .before .before .before .before in
-    m .on-digit .ensures ∙ sym (digit (m .before .before) .is) ∙ ap (step _ _ (stateOf (h .loop .k))) (inside-reads (known h) (h .loop .inv))
+part : (y : tie.After-copied Inv-loop μ-loop) → Part (head y .loop .i) (end y) (length (head y .loop .buf))
+part y = y .before .before .before .part-end .ensures
 
-by-rule : (m : tie.After-rare Inv-loop μ-loop)
-    → let h = m .before .before .before .before .before in stepOf (m .rare .result) ≡ step (start h .args .alphabet) (start h .args .options) (stateOf (h .loop .k)) (getD (start h .args .buf .now) (h .loop .i) 0)
-by-rule m =
-    let h = m .before .before .before .before .before in
-    m .rare .ensures ∙ ap (step _ _ (stateOf (h .loop .k))) (inside-reads (known h) (h .loop .inv))
+ends : (y : tie.After-copied Inv-loop μ-loop) → Part (head y .loop .i) (end y) (length (start (head y) .args .buf .now))
+ends y = settling-ends (head y .loop .inv) (part y)
+
+is-part : (y : tie.After-copied Inv-loop μ-loop)
+    → take (end y - head y .loop .i) (y .copied .result) ≡ take (end y - head y .loop .i) (drop (head y .loop .i) (start (head y) .args .buf .now))
+is-part y = settling-part (head y .loop .inv) (part y) (y .copied .result) (y .copied .ensures)
+
+whole : (y : tie.After-copied Inv-loop μ-loop) → length (take (end y - head y .loop .i) (y .copied .result)) ≡ end y - head y .loop .i
+whole y = settling-whole (head y .loop .inv) (part y) (y .copied .result) (y .copied .ensures)
+
+abbrev from : tie.After-fill Inv-loop μ-loop → tie.After-copied Inv-loop μ-loop
+from f = f .before .before .before
+
+fits : (f : tie.After-fill Inv-loop μ-loop)
+    → let y = from f in let h = head y in length (take (end y - h .loop .i) (y .copied .result)) ≤ length (take (length (h .loop .buf) - h .loop .n) (drop (h .loop .n) (h .loop .buf)))
+fits f = let y = from f in settling-fits (head y .loop .inv) (part y) (y .copied .result) (y .copied .ensures)
+
+sums : (f : tie.After-fill Inv-loop μ-loop)
+    → let h = head (from f) in let n = length (start h .args .buf .now) in (h .loop .i + f .fill .result .took ≤ n) × (h .loop .n + f .fill .result .wrote ≤ n)
+sums f =
+    let y = from f in
+    let h = head y in
+    counting-sums (known h) (h .loop .inv .count) (ends y) (is-part y) (fits f) (f .fill .ensures .0)
 
 -- ---- the needs
 
-bits-requires : tie.Need-bits-requires Inv-loop μ-loop
-bits-requires c κs = search needs
-
 loop-holds : tie.Need-loop-holds Inv-loop μ-loop
-loop-holds c = inside-begins _ _ _ _ (c .before .before .pre .1 .1)
+loop-holds c = settling-begins _ _ _ _ (c .before .pre .1 .1)
 
-slice-read-byte : tie.Need-slice-read-byte Inv-loop μ-loop
-slice-read-byte c = search needs
+part-end-requires : tie.Need-part-end-requires Inv-loop μ-loop
+part-end-requires c κs = search needs
 
-lookup-requires : tie.Need-lookup-requires Inv-loop μ-loop
-lookup-requires c κs = search needs
+sub-m : tie.Need-sub-m Inv-loop μ-loop
+sub-m c = omega (arith, c .part-end .ensures .begins)
 
-enum-known-v : tie.Need-enum-known-v Inv-loop μ-loop
-enum-known-v c = search needs
+sub-copied : tie.Need-sub-copied Inv-loop μ-loop
+sub-copied c = omega (arith, c .part-end .ensures .begins)
 
-on-digit-requires : tie.Need-on-digit-requires Inv-loop μ-loop
-on-digit-requires c κs =
-    let b = c .before .before .before .before .before in
-    (b .before .before .bits .ensures, (known (b .before), (ready b, digit (c .before) .small)))
+part-copied-start : tie.Need-part-copied-start Inv-loop μ-loop
+part-copied-start c = omega (arith, c .before .part-end .ensures .begins)
 
-enum-known-c : tie.Need-enum-known-c Inv-loop μ-loop
-enum-known-c c = search needs
+part-copied-end : tie.Need-part-copied-end Inv-loop μ-loop
+part-copied-end c = omega (arith, c .before .part-end .ensures .within)
+
+copied-requires : tie.Need-copied-requires Inv-loop μ-loop
+copied-requires c κs = let h = c .before .before .before .before in omega (arith, settling-reads (h .loop .inv) (c .before .before .part-end .ensures), c .before .before .part-end .ensures .small)
+
+array-share-prefix-aside : tie.Need-array-share-prefix-aside Inv-loop μ-loop
+array-share-prefix-aside c = omega (arith, whole c, length-take (end c - head c .loop .i) (c .copied .result))
+
+slice-aggregate-fill : tie.Need-slice-aggregate-fill Inv-loop μ-loop
+slice-aggregate-fill c = sym (whole (c .before))
+
+sub-fill : tie.Need-sub-fill Inv-loop μ-loop
+sub-fill c = let f = head (c .before) .loop .inv in omega (arith, settling-size f, f .count .loop .fits)
+
+part-fill-start : tie.Need-part-fill-start Inv-loop μ-loop
+part-fill-start c = let f = head (c .before) .loop .inv in omega (arith, settling-size f, f .count .loop .fits)
+
+part-fill-end : tie.Need-part-fill-end Inv-loop μ-loop
+part-fill-end c = search needs
+
+fill-requires : tie.Need-fill-requires Inv-loop μ-loop
+fill-requires c κs =
+    let y = c .before .before in
+    let h = head y in
+    let s = start h in
+    (s .pre .0, (s .pre .1 .0, subst (λ (p : List ℕ). Ready (s .args .alphabet) (h .loop .k) (length p)) (sym (is-part y)) (part-ready (h .loop .inv .count) (ends y) (s .pre .1 .1))))
 
 add-i : tie.Need-add-i Inv-loop μ-loop
-add-i c = let h = c .before .before .before .before .before .before .before .before .before .before in omega (arith, same-size (known h) (h .loop .inv .fill), h .loop .inv .behind)
-
-loop-less : tie.Need-loop-less Inv-loop μ-loop
-loop-less c = let h = c .before .before .before .before .before .before .before .before .before .before in omega (arith, same-size (known h) (h .loop .inv .fill), h .loop .inv .behind)
-
-loop-again : tie.Need-loop-again Inv-loop μ-loop
-loop-again c =
-    let m = c .before .before .before in
-    let b = m .before .before .before .before .before .before in
-    let h = b .before in
-    inside-takes (known h) (h .loop .inv) (b .loop-test .taken) (by-digit m) (c .before .c .given .1)
-
-enum-known-x : tie.Need-enum-known-x Inv-loop μ-loop
-enum-known-x c = search needs
-
-slice-write-buf : tie.Need-slice-write-buf Inv-loop μ-loop
-slice-write-buf c =
-    let h = c .before .before .before .before .before .before .before .before .before .before in omega (arith, h .loop .inv .behind)
+add-i c = let f = c .before .before .before .before in omega (arith, sums f .0, text-fits (head (from f)))
 
 add-n : tie.Need-add-n Inv-loop μ-loop
-add-n c = let h = c .before .before .before .before .before .before .before .before .before .before in omega (arith, same-size (known h) (h .loop .inv .fill), h .loop .inv .behind)
+add-n c = let f = c .before .before .before .before .before in omega (arith, sums f .1, text-fits (head (from f)))
 
-add-i-2 : tie.Need-add-i-2 Inv-loop μ-loop
-add-i-2 c = let h = c .before .before .before .before .before .before .before .before .before .before in omega (arith, same-size (known h) (h .loop .inv .fill), h .loop .inv .behind)
+stops-requires : tie.Need-stops-requires Inv-loop μ-loop
+stops-requires c κs = search needs
 
-loop-less-2 : tie.Need-loop-less-2 Inv-loop μ-loop
-loop-less-2 c = let h = c .before .before .before .before .before .before .before .before .before .before in omega (arith, same-size (known h) (h .loop .inv .fill), h .loop .inv .behind)
-
-loop-again-2 : tie.Need-loop-again-2 Inv-loop μ-loop
-loop-again-2 c =
-    let m = c .before .before .before in
-    let b = m .before .before .before .before .before .before in
-    let h = b .before in
-    inside-gives (known h) (h .loop .inv) (b .loop-test .taken) (by-digit m) (c .before .x .given .1)
-
-enum-known-e : tie.Need-enum-known-e Inv-loop μ-loop
-enum-known-e c = search needs
+stopped-requires : tie.Need-stopped-requires Inv-loop μ-loop
+stopped-requires c κs = search needs
 
 same-length : tie.Need-same-length Inv-loop μ-loop
-same-length c = let h = c .before .before .before .before .before .before .before .before .before .before in same-size (known h) (h .loop .inv .fill)
+same-length c =
+    let f = c .before .before .before .before .before .before .before .before in
+    let h = head (from f) in
+    same-len-mid (h .loop .n) (length (h .loop .buf) - h .loop .n) (h .loop .buf) (f .fill .last .1 .1 .1 .1 .1 .0) (f .fill .kept .1 .1 .1 .1 .1 .0)
+    ∙ settling-size (h .loop .inv)
 
 returns : tie.Need-returns Inv-loop μ-loop
 returns c =
-    let m = c .before .before .before in
-    let b = m .before .before .before .before .before .before in
-    let h = b .before in
-    filling-done (known h) (h .loop .inv .fill) (loop-refused (known h) (h .loop .inv .fill .loop) (inside b) (by-digit m) (c .before .e .given .1))
+    let f = c .before .before .before .before .before .before .before .before in
+    let y = from f in
+    let h = head y in
+    settling-stops (known h) (h .loop .inv .count) (ends y) (is-part y) (fits f) (f .fill .ensures .0) (h .loop .inv .front) (f .fill .ensures .1) (c .stopped .ensures) (sym (c .before .before .stops .ensures) ∙ c .before .if1 .taken)
 
-rare-requires : tie.Need-rare-requires Inv-loop μ-loop
-rare-requires c κs =
-    let b = c .before .before .before in
-    (start (b .before) .pre .0, (known (b .before), ready b))
+loop-less : tie.Need-loop-less Inv-loop μ-loop
+loop-less c =
+    let f = c .before .before .before .before .before .before .before in
+    let y = from f in
+    let h = head y in
+    omega (arith, ends y .begins, ends y .within, counting-took (known h) (h .loop .inv .count) (ends y) (is-part y) (fits f) (f .fill .ensures .0) (sym (c .before .stops .ensures) ∙ c .if1 .left))
 
-enum-known-c-2 : tie.Need-enum-known-c-2 Inv-loop μ-loop
-enum-known-c-2 c = search needs
+loop-again : tie.Need-loop-again Inv-loop μ-loop
+loop-again c =
+    let f = c .before .before .before .before .before .before .before in
+    let y = from f in
+    let h = head y in
+    settling-goes (known h) (h .loop .inv .count) (ends y) (is-part y) (fits f) (f .fill .ensures .0) (h .loop .inv .front) (f .fill .ensures .1) (sym (c .before .stops .ensures) ∙ c .if1 .left)
 
-add-i-3 : tie.Need-add-i-3 Inv-loop μ-loop
-add-i-3 c = let h = c .before .before .before .before .before .before .before .before in omega (arith, same-size (known h) (h .loop .inv .fill), h .loop .inv .behind)
-
-loop-less-3 : tie.Need-loop-less-3 Inv-loop μ-loop
-loop-less-3 c = let h = c .before .before .before .before .before .before .before .before in omega (arith, same-size (known h) (h .loop .inv .fill), h .loop .inv .behind)
-
-loop-again-3 : tie.Need-loop-again-3 Inv-loop μ-loop
-loop-again-3 c =
-    let m = c .before .before .before in
-    let b = m .before .before .before .before in
-    let h = b .before in
-    inside-takes (known h) (h .loop .inv) (b .loop-test .taken) (by-rule m) (c .before .c2 .given .1)
-
-enum-known-x-2 : tie.Need-enum-known-x-2 Inv-loop μ-loop
-enum-known-x-2 c = search needs
-
-slice-write-buf-2 : tie.Need-slice-write-buf-2 Inv-loop μ-loop
-slice-write-buf-2 c =
-    let h = c .before .before .before .before .before .before .before .before in omega (arith, h .loop .inv .behind)
-
-add-n-2 : tie.Need-add-n-2 Inv-loop μ-loop
-add-n-2 c = let h = c .before .before .before .before .before .before .before .before in omega (arith, same-size (known h) (h .loop .inv .fill), h .loop .inv .behind)
-
-add-i-4 : tie.Need-add-i-4 Inv-loop μ-loop
-add-i-4 c = let h = c .before .before .before .before .before .before .before .before in omega (arith, same-size (known h) (h .loop .inv .fill), h .loop .inv .behind)
-
-loop-less-4 : tie.Need-loop-less-4 Inv-loop μ-loop
-loop-less-4 c = let h = c .before .before .before .before .before .before .before .before in omega (arith, same-size (known h) (h .loop .inv .fill), h .loop .inv .behind)
-
-loop-again-4 : tie.Need-loop-again-4 Inv-loop μ-loop
-loop-again-4 c =
-    let m = c .before .before .before in
-    let b = m .before .before .before .before in
-    let h = b .before in
-    inside-gives (known h) (h .loop .inv) (b .loop-test .taken) (by-rule m) (c .before .x2 .given .1)
-
-enum-known-e-2 : tie.Need-enum-known-e-2 Inv-loop μ-loop
-enum-known-e-2 c = search needs
+stopped-requires-2 : tie.Need-stopped-requires-2 Inv-loop μ-loop
+stopped-requires-2 c κs = search needs
 
 same-length-2 : tie.Need-same-length-2 Inv-loop μ-loop
-same-length-2 c = let h = c .before .before .before .before .before .before .before .before in same-size (known h) (h .loop .inv .fill)
+same-length-2 c = settling-size (c .before .before .loop .inv)
 
 returns-2 : tie.Need-returns-2 Inv-loop μ-loop
 returns-2 c =
-    let m = c .before .before .before in
-    let b = m .before .before .before .before in
-    let h = b .before in
-    filling-done (known h) (h .loop .inv .fill) (loop-refused (known h) (h .loop .inv .fill .loop) (inside b) (by-rule m) (c .before .e2 .given .1))
-
-same-length-3 : tie.Need-same-length-3 Inv-loop μ-loop
-same-length-3 c = let h = c .before in same-size (known h) (h .loop .inv .fill)
-
-returns-3 : tie.Need-returns-3 Inv-loop μ-loop
-returns-3 c =
-    let h = c .before in
-    filling-done (known h) (h .loop .inv .fill) (loop-all (known h) (h .loop .inv .fill .loop) (omega (arith, same-size (known h) (h .loop .inv .fill), c .loop-test .left)))
+    let h = c .before .before in
+    let f = h .loop .inv in
+    settling-done f (c .stopped2 .ensures) (loop-all (known h) (f .count .loop) (omega (arith, settling-size f, c .before .loop-test .left)))
 
 pub settle-spec : {M : Type 1} → statement M
 settle-spec =
@@ -201,38 +169,27 @@ settle-spec =
     (tie.spec
     Inv-loop
     μ-loop
-    bits-requires
     loop-holds
-    slice-read-byte
-    lookup-requires
-    enum-known-v
-    on-digit-requires
-    enum-known-c
+    part-end-requires
+    sub-m
+    sub-copied
+    part-copied-start
+    part-copied-end
+    copied-requires
+    array-share-prefix-aside
+    slice-aggregate-fill
+    sub-fill
+    part-fill-start
+    part-fill-end
+    fill-requires
     add-i
-    loop-less
-    loop-again
-    enum-known-x
-    slice-write-buf
     add-n
-    add-i-2
-    loop-less-2
-    loop-again-2
-    enum-known-e
+    stops-requires
+    stopped-requires
     same-length
     returns
-    rare-requires
-    enum-known-c-2
-    add-i-3
-    loop-less-3
-    loop-again-3
-    enum-known-x-2
-    slice-write-buf-2
-    add-n-2
-    add-i-4
-    loop-less-4
-    loop-again-4
-    enum-known-e-2
+    loop-less
+    loop-again
+    stopped-requires-2
     same-length-2
-    returns-2
-    same-length-3
-    returns-3)
+    returns-2)

@@ -1,178 +1,115 @@
--- `piece::tally`: each turn of the loop takes a byte as the definition does, or stops as it does. Assumes nothing.
-use Prim.Native.Nat.{_-_, _<_}
-use mathlib.Core.Path.{_≡_, sym, _∙_}
+-- `piece::tally`: each part is taken as the definition does, or it stops as it does. Assumes nothing.
+use Prim.Native.Nat.{ℕ, _+_, _-_, _<_, _≤_, _^_}
+use mathlib.Core.Path.{_≡_, refl, sym, _∙_}
 use native.Mathlib.Omega.{arith}
-use lib.ListN.{length, getD}
+use lib.ListN.{length, take, drop}
 use borrow.Author.Needs.{needs}
-use Rattle.reading.specs.Reader.{step}
+use Rattle.reading.proofs.LimitLaws.{limit-small}
 use Rattle.reading.proofs.OptionLaws.{allowed-alphabet}
-use Rattle.reading.proofs.StepCases.{Stands}
-use Rattle.engine.specs.Meaning.{stateOf, stepOf, Fit}
-use Rattle.engine.proofs.Bytes.{plain-digit}
-use Rattle.engine.proofs.Loops.{Tally, tally-begins, tally-takes, tally-gives, fit, loop-refused, loop-all}
+use Rattle.engine.specs.Loop.{Part}
+use Rattle.engine.proofs.Loops.{loop-all}
+use Rattle.engine.proofs.Parts.{Tallying, tallying-begins, part-size, part-ready, counting-sums, counting-took, tallying-goes, counting-stops}
 use Rattle.engine.proofs.piece.tally.Statement.{statement}
 use Rattle.engine.proofs.piece.tally.Tie as tie
 
 abbrev Inv-loop : tie.InvT-loop
-Inv-loop t alphabet options text b k₀ i₀ n₀ k i n = Tally alphabet options text k₀ k i n
+Inv-loop t alphabet options text aside₀ k₀ i₀ n₀ aside k i n = (length aside ≡ 256) × Tallying alphabet options text k₀ k i n
 
 abbrev μ-loop : tie.MeasureT-loop
-μ-loop t alphabet options text b k₀ i₀ n₀ k i n = length text - i
+μ-loop t alphabet options text aside₀ k₀ i₀ n₀ aside k i n = length text - i
 
 -- ---- what is known in a turn
 
 abbrev start : tie.At-loop Inv-loop μ-loop → tie.Start Inv-loop μ-loop
-start h = h .before .before .before
+start h = h .before .before
 
 known : (h : tie.At-loop Inv-loop μ-loop) → start h .args .alphabet < 6
 known h = allowed-alphabet _ _ (start h .pre .1 .0)
 
-inside : (b : tie.In-loop Inv-loop μ-loop) → b .before .loop .i < length (start (b .before) .args .text .now)
-inside b = b .loop-test .taken
+text-fits : (h : tie.At-loop Inv-loop μ-loop) → length (start h .args .text .now) < 2 ^ 40
+text-fits h = omega (arith, start h .pre .1 .1 .within, limit-small)
 
-ready : (b : tie.In-loop Inv-loop μ-loop) → Fit (start (b .before) .args .alphabet) (b .before .loop .k)
-ready b = let h = b .before in fit (known h) (h .loop .inv .loop) (start h .pre .1 .1) (inside b)
+abbrev head : tie.After-fill Inv-loop μ-loop → tie.At-loop Inv-loop μ-loop
+head f = f .before .before .before .before .before
 
--- the byte is a digit as it stands
-digit : (v : tie.After-v Inv-loop μ-loop)
-    → let h = v .before .before .before .before .before in Stands (start h .args .alphabet) (start h .args .options) (stateOf (h .loop .k)) (getD (start h .args .text .now) (h .loop .i) 0) (v .v .given .0 .0)
-digit v =
-    let l = v .before .before in
-    let b = l .before in
-    let h = b .before .before in
-    let s = start h in
-    plain-digit _ _ (getD (s .args .text .now) (h .loop .i) 0) (stateOf (h .loop .k)) (s .pre .0) (s .pre .1 .0) (omega (arith, b .shared-slice-known2 .given (h .loop .i))) (sym (l .lookup .ensures) ∙ v .v .given .1)
+abbrev end : tie.After-fill Inv-loop μ-loop → ℕ
+end f = f .before .before .before .part-end .result
 
--- what the byte does, asked of `on_digit` or of `rare`
-by-digit : (m : tie.After-on-digit Inv-loop μ-loop)
-    → let h = m .before .before .before .before .before .before .before in stepOf (m .on-digit .result) ≡ step (start h .args .alphabet) (start h .args .options) (stateOf (h .loop .k)) (getD (start h .args .text .now) (h .loop .i) 0)
-by-digit m =
-    m .on-digit .ensures ∙ sym (digit (m .before .before) .is)
+part : (f : tie.After-fill Inv-loop μ-loop) → Part (head f .loop .i) (end f) (length (start (head f) .args .text .now))
+part f = f .before .before .before .part-end .ensures
 
-by-rule : (m : tie.After-rare Inv-loop μ-loop)
-    → let h = m .before .before .before .before .before in stepOf (m .rare .result) ≡ step (start h .args .alphabet) (start h .args .options) (stateOf (h .loop .k)) (getD (start h .args .text .now) (h .loop .i) 0)
-by-rule m =
-    m .rare .ensures
+-- the part is no longer than what it is read into
+fits : (f : tie.After-fill Inv-loop μ-loop)
+    → length (take (end f - head f .loop .i) (drop (head f .loop .i) (start (head f) .args .text .now))) ≤ length (head f .loop .aside)
+fits f = omega (arith, part-size (head f .loop .inv .1 .count) (part f), part f .small, head f .loop .inv .0)
+
+sums : (f : tie.After-fill Inv-loop μ-loop)
+    → let n = length (start (head f) .args .text .now) in (head f .loop .i + f .fill .result .took ≤ n) × (head f .loop .n + f .fill .result .wrote ≤ n)
+sums f = let h = head f in counting-sums (known h) (h .loop .inv .1 .count) (part f) refl (fits f) (f .fill .ensures .0)
 
 -- ---- the needs
 
-bits-requires : tie.Need-bits-requires Inv-loop μ-loop
-bits-requires c κs = search needs
-
 loop-holds : tie.Need-loop-holds Inv-loop μ-loop
-loop-holds c = tally-begins _ _ _ _ (c .before .before .pre .1 .1)
+loop-holds c = (search needs, tallying-begins _ _ _ _ (c .before .pre .1 .1))
 
-shared-slice-read-byte : tie.Need-shared-slice-read-byte Inv-loop μ-loop
-shared-slice-read-byte c = search needs
+part-end-requires : tie.Need-part-end-requires Inv-loop μ-loop
+part-end-requires c κs = search needs
 
-lookup-requires : tie.Need-lookup-requires Inv-loop μ-loop
-lookup-requires c κs = search needs
+sub-fill : tie.Need-sub-fill Inv-loop μ-loop
+sub-fill c = omega (arith, c .part-end .ensures .begins)
 
-enum-known-v : tie.Need-enum-known-v Inv-loop μ-loop
-enum-known-v c = search needs
+part-fill-start : tie.Need-part-fill-start Inv-loop μ-loop
+part-fill-start c = omega (arith, c .part-end .ensures .begins)
 
-on-digit-requires : tie.Need-on-digit-requires Inv-loop μ-loop
-on-digit-requires c κs =
-    let b = c .before .before .before .before .before in
-    (b .before .before .bits .ensures, (known (b .before), (ready b, digit (c .before) .small)))
+part-fill-end : tie.Need-part-fill-end Inv-loop μ-loop
+part-fill-end c = omega (arith, c .part-end .ensures .within)
 
-enum-known-c : tie.Need-enum-known-c Inv-loop μ-loop
-enum-known-c c = search needs
+slice-aggregate-fill : tie.Need-slice-aggregate-fill Inv-loop μ-loop
+slice-aggregate-fill c = sym (c .before .before .before .before .loop .inv .0)
+
+fill-requires : tie.Need-fill-requires Inv-loop μ-loop
+fill-requires c κs =
+    let h = c .before .before .before .before in
+    let s = start h in
+    (s .pre .0, (s .pre .1 .0, part-ready (h .loop .inv .1 .count) (c .before .before .part-end .ensures) (s .pre .1 .1)))
 
 add-i : tie.Need-add-i Inv-loop μ-loop
-add-i c = search needs
-
-loop-less : tie.Need-loop-less Inv-loop μ-loop
-loop-less c = search needs
-
-loop-again : tie.Need-loop-again Inv-loop μ-loop
-loop-again c =
-    let m = c .before .before .before in
-    let b = m .before .before .before .before .before .before in
-    let h = b .before in
-    tally-takes (known h) (h .loop .inv) (b .loop-test .taken) (by-digit m) (c .before .c .given .1)
-
-enum-known-c-2 : tie.Need-enum-known-c-2 Inv-loop μ-loop
-enum-known-c-2 c = search needs
+add-i c = let f = c .before .before .before in omega (arith, sums f .0, text-fits (head f))
 
 add-n : tie.Need-add-n Inv-loop μ-loop
-add-n c = let h = c .before .before .before .before .before .before .before .before .before .before in omega (arith, h .loop .inv .behind)
+add-n c = let f = c .before .before .before .before in omega (arith, sums f .1, text-fits (head f))
 
-add-i-2 : tie.Need-add-i-2 Inv-loop μ-loop
-add-i-2 c = search needs
+stops-requires : tie.Need-stops-requires Inv-loop μ-loop
+stops-requires c κs = search needs
 
-loop-less-2 : tie.Need-loop-less-2 Inv-loop μ-loop
-loop-less-2 c = search needs
-
-loop-again-2 : tie.Need-loop-again-2 Inv-loop μ-loop
-loop-again-2 c =
-    let m = c .before .before .before in
-    let b = m .before .before .before .before .before .before in
-    let h = b .before in
-    tally-gives (known h) (h .loop .inv) (b .loop-test .taken) (by-digit m) (c .before .c2 .given .1)
-
-enum-known-e : tie.Need-enum-known-e Inv-loop μ-loop
-enum-known-e c = search needs
+stopped-requires : tie.Need-stopped-requires Inv-loop μ-loop
+stopped-requires c κs = search needs
 
 returns : tie.Need-returns Inv-loop μ-loop
 returns c =
-    let m = c .before .before .before in
-    let b = m .before .before .before .before .before .before in
-    let h = b .before in
-    (loop-refused (known h) (h .loop .inv .loop) (inside b) (by-digit m) (c .before .e .given .1)) .is
+    let f = c .before .before .before .before .before .before .before in
+    let h = head f in
+    c .stopped .ensures ∙ counting-stops (known h) (h .loop .inv .1 .count) (part f) refl (fits f) (f .fill .ensures .0) (sym (c .before .before .stops .ensures) ∙ c .before .if1 .taken) .is
 
-rare-requires : tie.Need-rare-requires Inv-loop μ-loop
-rare-requires c κs =
-    let b = c .before .before .before in
-    (start (b .before) .pre .0, (known (b .before), ready b))
+loop-less : tie.Need-loop-less Inv-loop μ-loop
+loop-less c =
+    let f = c .before .before .before .before .before .before in
+    let h = head f in
+    omega (arith, part f .begins, h .loop .inv .1 .count .loop .within, part f .within, counting-took (known h) (h .loop .inv .1 .count) (part f) refl (fits f) (f .fill .ensures .0) (sym (c .before .stops .ensures) ∙ c .if1 .left))
 
-enum-known-c-3 : tie.Need-enum-known-c-3 Inv-loop μ-loop
-enum-known-c-3 c = search needs
+loop-again : tie.Need-loop-again Inv-loop μ-loop
+loop-again c =
+    let f = c .before .before .before .before .before .before in
+    let h = head f in
+    (f .fill .kept .1 .1 .1 .1 .1 .0 ∙ h .loop .inv .0, tallying-goes (known h) (h .loop .inv .1 .count) (part f) refl (fits f) (f .fill .ensures .0) (sym (c .before .stops .ensures) ∙ c .if1 .left))
 
-add-i-3 : tie.Need-add-i-3 Inv-loop μ-loop
-add-i-3 c = search needs
-
-loop-less-3 : tie.Need-loop-less-3 Inv-loop μ-loop
-loop-less-3 c = search needs
-
-loop-again-3 : tie.Need-loop-again-3 Inv-loop μ-loop
-loop-again-3 c =
-    let m = c .before .before .before in
-    let b = m .before .before .before .before in
-    let h = b .before in
-    tally-takes (known h) (h .loop .inv) (b .loop-test .taken) (by-rule m) (c .before .c3 .given .1)
-
-enum-known-c-4 : tie.Need-enum-known-c-4 Inv-loop μ-loop
-enum-known-c-4 c = search needs
-
-add-n-2 : tie.Need-add-n-2 Inv-loop μ-loop
-add-n-2 c = let h = c .before .before .before .before .before .before .before .before in omega (arith, h .loop .inv .behind)
-
-add-i-4 : tie.Need-add-i-4 Inv-loop μ-loop
-add-i-4 c = search needs
-
-loop-less-4 : tie.Need-loop-less-4 Inv-loop μ-loop
-loop-less-4 c = search needs
-
-loop-again-4 : tie.Need-loop-again-4 Inv-loop μ-loop
-loop-again-4 c =
-    let m = c .before .before .before in
-    let b = m .before .before .before .before in
-    let h = b .before in
-    tally-gives (known h) (h .loop .inv) (b .loop-test .taken) (by-rule m) (c .before .c4 .given .1)
-
-enum-known-e-2 : tie.Need-enum-known-e-2 Inv-loop μ-loop
-enum-known-e-2 c = search needs
+stopped-requires-2 : tie.Need-stopped-requires-2 Inv-loop μ-loop
+stopped-requires-2 c κs = search needs
 
 returns-2 : tie.Need-returns-2 Inv-loop μ-loop
 returns-2 c =
-    let m = c .before .before .before in
-    let b = m .before .before .before .before in
-    let h = b .before in
-    (loop-refused (known h) (h .loop .inv .loop) (inside b) (by-rule m) (c .before .e2 .given .1)) .is
-
-returns-3 : tie.Need-returns-3 Inv-loop μ-loop
-returns-3 c = let h = c .before in loop-all (known h) (h .loop .inv .loop) (c .loop-test .left) .is
+    let h = c .before .before in
+    c .stopped2 .ensures ∙ loop-all (known h) (h .loop .inv .1 .count .loop) (c .before .loop-test .left) .is
 
 pub tally-spec : {M : Type 1} → statement M
 tally-spec =
@@ -180,33 +117,19 @@ tally-spec =
     (tie.spec
     Inv-loop
     μ-loop
-    bits-requires
     loop-holds
-    shared-slice-read-byte
-    lookup-requires
-    enum-known-v
-    on-digit-requires
-    enum-known-c
+    part-end-requires
+    sub-fill
+    part-fill-start
+    part-fill-end
+    slice-aggregate-fill
+    fill-requires
     add-i
+    add-n
+    stops-requires
+    stopped-requires
+    returns
     loop-less
     loop-again
-    enum-known-c-2
-    add-n
-    add-i-2
-    loop-less-2
-    loop-again-2
-    enum-known-e
-    returns
-    rare-requires
-    enum-known-c-3
-    add-i-3
-    loop-less-3
-    loop-again-3
-    enum-known-c-4
-    add-n-2
-    add-i-4
-    loop-less-4
-    loop-again-4
-    enum-known-e-2
-    returns-2
-    returns-3)
+    stopped-requires-2
+    returns-2)
