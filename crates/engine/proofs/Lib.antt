@@ -3,6 +3,7 @@ pub mod Steps
 pub mod Bytes
 pub mod Loops
 pub mod Plain
+pub mod Reaching
 pub mod Parts
 pub mod AtLimit
 pub mod FromFresh

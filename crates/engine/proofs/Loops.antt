@@ -105,13 +105,28 @@ ahead w o n i e l =
     let j : n + (i - n) ≡ i = omega arith in
     ap (λ (m : ℕ). getD (w ++ drop n o) m 0) (sym j ∙ ap (λ (m : ℕ). m + (i - n)) (sym e)) ∙ lib.Seq.getD-append-add w (drop n o) (i - n) 0 ∙ getD-drop n o (i - n) 0 ∙ ap (λ (m : ℕ). getD o m 0) j
 
+pub rest-all : (l : List ℕ) (i : ℕ) → take (length l - i) (drop i l) ≡ drop i l
+rest-all l i = take-all (length l - i) (drop i l) (omega (arith, length-drop i l))
+
+pub rest-some : (l : List ℕ) (i : ℕ) → i < length l → 0 < length (take (length l - i) (drop i l))
+rest-some l i h = rw (rest-all l i, length-drop) (omega arith)
+
+-- what lies past the rest that was lent
+pub past-none : (l : List ℕ) (n : ℕ) → drop (length l - n) (drop n l) ≡ []
+past-none l n = drop-of-length-le (drop n l) {i = length l - n} (omega (arith, length-drop n l))
+
+-- bytes v stored at the front of the rest follow the bytes w
+pub stored-lent : (w v o : List ℕ) {n : ℕ} {out out' : List ℕ} → length w ≡ n → out ≡ w ++ drop n o → out' ≡ filled v (take (length out - n) (drop n out))
+    → take n out ++ (out' ++ drop (length out - n) (drop n out)) ≡ (w ++ v) ++ drop (n + length v) o
+stored-lent w v o {n} {out} {out'} size front e =
+    let rest : drop n out ≡ drop n o = ap (drop n) front ∙ drop-at w (drop n o) n size in
+    rw
+    (past-none out n, append-nil, e, rest-all out n, rest, ap (take n) front ∙ take-at w (drop n o) n size, drop-drop (length v) n o, append-assoc)
+
 -- ---- the loop into a buffer
 
 pub filling-begins : (a opts : ℕ) (piece : List ℕ) (k : Core) (out : List ℕ) → Ready a k (length piece) → Filling a opts piece k out out k 0 0
 filling-begins a opts piece k out r = record { wrote = []; loop = loop-begins a opts piece k (length out) r; front = refl }
-
-pub rest-all : (l : List ℕ) (i : ℕ) → take (length l - i) (drop i l) ≡ drop i l
-rest-all l i = take-all (length l - i) (drop i l) (omega (arith, length-drop i l))
 
 module _ {a opts : ℕ} {piece : List ℕ} {start : Core} {out₀ out : List ℕ} {k : Core} {i n : ℕ} (h : a < 6) (f : Filling a opts piece start out₀ out k i n) where
   pub same-size : length out ≡ length out₀
@@ -170,5 +185,4 @@ module _ {a opts : ℕ} {piece : List ℕ} {start : Core} {out₀ out : List ℕ
       → Filling a opts (take (length piece - i) (drop i piece)) k (take (length out - n) (drop n out)) out' k' m w
       → Filling a opts piece start out₀ (take n out ++ (out' ++ drop (length out - n) (drop n out))) k' (i + m) (n + w)
   filling-lent {out'} {k'} {m} {w} g =
-      let none : drop (length out - n) (drop n out) ≡ [] = drop-of-length-le (drop n out) {i = length out - n} (omega (arith, length-drop n out)) in
-      rw (none, append-nil) (filling-joins (rw (rest-all piece i, rest-all out n) at g))
+      rw (past-none out n, append-nil) (filling-joins (rw (rest-all piece i, rest-all out n) at g))

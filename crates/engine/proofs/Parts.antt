@@ -1,14 +1,13 @@
--- What holds at the head of a loop over the parts of a text, that a part keeps it, and what it gives at the loop's end: for the loop that counts
--- and the loop in place. Assumes nothing.
+-- A run over a text that is made in parts, with room for as many bytes as the text has, which never lacks: what a part keeps of what was reached
+-- before it, and what is reached in the end. For the loop that counts and the loop in place. Assumes nothing.
 use Prim.Native.Nat.{ℕ, _+_, _-_, _<_, _≤_, zero-le}
 use mathlib.Core.Path.{_≡_, refl, sym, ap, _∙_, subst}
-use mathlib.Core.Bool.{Bool, true, false}
-use mathlib.Core.List.{List, [], _∷_, _++_, append-assoc, append-nil}
+use mathlib.Core.Logic.{_⊎_, inl, inr}
+use mathlib.Core.Bool.{false}
+use mathlib.Core.List.{List, [], _++_}
 use native.Mathlib.Omega.{arith}
-use lib.Dec.{T}
-use lib.ListN.{length, take, drop, length-append, length-drop, length-take, take-append-drop, drop-of-length-le}
-use lib.Seq.{length-take-le, take-at, drop-at, drop-drop, drop-append-add}
-use Rattle.reading.specs.Reader.{State}
+use lib.ListN.{length, take, drop, length-append, length-drop, take-append-drop}
+use lib.Seq.{length-take-le, drop-drop, drop-append-add}
 use Rattle.reading.specs.Buffer.{filled}
 use Rattle.reading.specs.Piece as P
 use Rattle.reading.specs.Piece.{after, run}
@@ -21,34 +20,66 @@ use Rattle.engine.specs.declared.rule.Core.{Core}
 use Rattle.engine.specs.declared.piece.Why.the-variants as W
 use Rattle.engine.specs.declared.piece.Ran.{Ran}
 use Rattle.engine.specs.Meaning.{stateOf}
-use Rattle.engine.specs.Ran.{coreOf, whyAs, stops, ranAs, Ready}
+use Rattle.engine.specs.Ran.{coreOf, whyAs, goesOn, thenAs, ranAs, Ready}
 use Rattle.engine.specs.Loop.{Loop, Part}
-use Rattle.engine.proofs.Loops.{Done, loop-begins, loop-all, rest-all}
+use Rattle.engine.proofs.Loops.{loop-begins, loop-all, rest-all, stored-lent}
+use Rattle.engine.proofs.Reaching.{all-or-not, goes-no-more, full-not-all, refused-not-all, then-after, all-is}
 
--- room for as many bytes as the text has never lacks
+-- i bytes are taken, the n bytes `wrote` are given, and n is never past i
 pub record Counting (a opts : ℕ) (text : List ℕ) (start k : Core) (i n : ℕ) (wrote : List ℕ) : Type 0 where
   pub loop : Loop a opts text start (length text) k i n wrote
   pub behind : n ≤ i
 
--- the loop that counts
-pub record Tallying (a opts : ℕ) (text : List ℕ) (start k : Core) (i n : ℕ) : Type 0 where
+-- the run came so far and goes on, with the bytes `wrote`, or it stopped as the run over the whole text does
+pub record Counted (a opts : ℕ) (text : List ℕ) (start : Core) (s : Ran) : Type 0 where
   pub wrote : List ℕ
-  pub count : Counting a opts text start k i n wrote
+  pub goes : s .why ≡ W.All → Counting a opts text start (s .core) (s .took) (s .wrote) wrote
+  pub is : (s .why ≡ W.All → ⊥) → s ≡ ranAs (run a opts text (stateOf start) (length text))
+  pub bytes : (s .why ≡ W.All → ⊥) → run a opts text (stateOf start) (length text) .wrote ≡ wrote
 
--- the loop in place: the text is the buffer as it came
-pub record Settling (a opts : ℕ) (buf₀ : List ℕ) (start : Core) (buf : List ℕ) (k : Core) (i n : ℕ) : Type 0 where
-  pub wrote : List ℕ
-  pub count : Counting a opts buf₀ start k i n wrote
-  pub front : buf ≡ wrote ++ drop n buf₀
+abbrev fresh-count : {a opts : ℕ} {text : List ℕ} {start : Core} → Ready a start (length text)
+    → Counted a opts text start (record { core = start; why = W.All; took = 0; wrote = 0 })
+fresh-count {a} {opts} {text} {start} r = record {
+  wrote = [];
+  goes = λ x. record { loop = loop-begins a opts text start (length text) r; behind = zero-le };
+  is = λ x. absurd (x refl);
+  bytes = λ x. absurd (x refl);
+}
 
-counting-begins : (a opts : ℕ) (text : List ℕ) (k : Core) → Ready a k (length text) → Counting a opts text k k 0 0 []
-counting-begins a opts text k r = record { loop = loop-begins a opts text k (length text) r; behind = zero-le }
+module _ {a opts : ℕ} {text : List ℕ} {start : Core} {s : Ran} where
+  pub counted-begins : s ≡ record { core = start; why = W.All; took = 0; wrote = 0 } → Ready a start (length text) → Counted a opts text start s
+  counted-begins e r =
+      subst (Counted a opts text start) (sym e) (fresh-count r)
 
-pub tallying-begins : (a opts : ℕ) (text : List ℕ) (k : Core) → Ready a k (length text) → Tallying a opts text k k 0 0
-tallying-begins a opts text k r = record { wrote = []; count = counting-begins a opts text k r }
+  module _ (h : a < 6) (f : Counted a opts text start s) where
+    pub counted-sums : (s .took ≤ length text) × (s .wrote ≤ length text)
+    counted-sums = go (all-or-not (s .why))
+      where
+        go : (s .why ≡ W.All) ⊎ (s .why ≡ W.All → ⊥) → (s .took ≤ length text) × (s .wrote ≤ length text)
+        go (inl e) = (f .goes e .loop .within, f .goes e .loop .fits)
+        go (inr n) =
+            let r = run-feeds a opts text (stateOf start) (length text) [] in
+            subst (λ (z : Ran). (z .took ≤ length text) × (z .wrote ≤ length text)) (sym (f .is n)) (r .took-in, r .wrote-in)
 
-pub settling-begins : (a opts : ℕ) (buf : List ℕ) (k : Core) → Ready a k (length buf) → Settling a opts buf k buf k 0 0
-settling-begins a opts buf k r = record { wrote = []; count = counting-begins a opts buf k r; front = refl }
+    pub counted-done : goesOn (s .why) (s .took) (length text) ≡ false
+        → (s ≡ ranAs (run a opts text (stateOf start) (length text))) × (run a opts text (stateOf start) (length text) .wrote ≡ f .wrote)
+    counted-done e = go (all-or-not (s .why))
+      where
+        go : (s .why ≡ W.All) ⊎ (s .why ≡ W.All → ⊥)
+            → (s ≡ ranAs (run a opts text (stateOf start) (length text))) × (run a opts text (stateOf start) (length text) .wrote ≡ f .wrote)
+        go (inl w) =
+            let d = loop-all h (f .goes w .loop) (goes-no-more (s .why) (s .took) (length text) e w) in
+            (all-is s w ∙ d .is, d .bytes)
+        go (inr n) = (f .is n, f .bytes n)
+
+-- the run in place: the text is the buffer as it came
+pub record Settled (a opts : ℕ) (buf₀ : List ℕ) (start : Core) (buf : List ℕ) (s : Ran) : Type 0 where
+  pub count : Counted a opts buf₀ start s
+  pub front : buf ≡ count .wrote ++ drop (s .wrote) buf₀
+
+pub settled-begins : {a opts : ℕ} {buf : List ℕ} {start : Core} {s : Ran} → s ≡ record { core = start; why = W.All; took = 0; wrote = 0 }
+    → Ready a start (length buf) → Settled a opts buf start buf s
+settled-begins {a} {opts} {buf} {start} e r = subst (Settled a opts buf start buf) (sym e) (record { count = fresh-count r; front = refl })
 
 -- ---- a part
 
@@ -60,49 +91,51 @@ module _ {a opts : ℕ} {text : List ℕ} {start k : Core} {i n e : ℕ} {wrote 
   pub part-ready : Ready a start (length text) → Ready a k (length (take (e - i) (drop i text)))
   part-ready r = record { sound = f .loop .sound; within = rw part-size (omega (arith, f .loop .place, r .within, p .begins, p .within)) }
 
--- ---- why a part's run stopped
-
-goes-is : (w : P.Why) → stops (whyAs w) ≡ false → w ≡ P.all
-unfolding stops whyAs
+goes-is : (w : P.Why) → whyAs w ≡ W.All → w ≡ P.all
+unfolding whyAs
 goes-is P.all e = refl
-goes-is (P.refused k) e = absurd (subst T e tt)
-goes-is P.full e = absurd (subst T e tt)
+goes-is (P.refused k) e = absurd (refused-not-all e)
+goes-is P.full e = absurd (full-not-all e)
 
-stops-not : (w : P.Why) → stops (whyAs w) ≡ true → w ≡ P.all → ⊥
-unfolding stops whyAs
-stops-not w e q = subst T (sym e ∙ ap (λ (x : P.Why). stops (whyAs x)) q) tt
+stops-not : (w : P.Why) → (whyAs w ≡ W.All → ⊥) → w ≡ P.all → ⊥
+unfolding whyAs
+stops-not w n q = n (ap whyAs q)
 
-module _ {a opts : ℕ} {text : List ℕ} {start k : Core} {i n e room : ℕ} {wrote part : List ℕ} (h : a < 6) (f : Counting a opts text start k i n wrote)
-    (p : Part i e (length text)) (same : part ≡ take (e - i) (drop i text)) (fits : length part ≤ room) where
-  size : length part ≡ e - i
+module _ {a opts : ℕ} {text : List ℕ} {start : Core} {e room : ℕ} {wrote part : List ℕ} (s : Ran) (h : a < 6)
+    (f : Counting a opts text start (s .core) (s .took) (s .wrote) wrote) (p : Part (s .took) e (length text))
+    (same : part ≡ take (e - s .took) (drop (s .took) text)) (fits : length part ≤ room) where
+  size : length part ≡ e - s .took
   size = ap length same ∙ part-size f p
 
-  -- the text from i on
-  cut : drop i text ≡ part ++ drop e text
+  -- the text from the part on
+  cut : drop (s .took) text ≡ part ++ drop e text
   cut =
-      let j : i + (e - i) ≡ e = omega (arith, p .begins) in
-      sym (take-append-drop (e - i) (drop i text)) ∙ rw (← same, drop-drop (e - i) i text, j)
+      let j : s .took + (e - s .took) ≡ e = omega (arith, p .begins) in
+      sym (take-append-drop (e - s .took) (drop (s .took) text)) ∙ rw (← same, drop-drop (e - s .took) (s .took) text, j)
 
   -- the part's run, into the room that is left
   abbrev q : P.Ran
-  q = run a opts part (stateOf k) (length text - n)
+  q = run a opts part (stateOf (s .core)) (length text - s .wrote)
 
-  pub part-run : run a opts part (stateOf k) room ≡ q
-  part-run = run-room a opts part (stateOf k) room (length text - n) fits (omega (arith, size, f .behind, p .begins, p .within))
+  enough : length part ≤ length text - s .wrote
+  enough = omega (arith, size, f .behind, p .begins, p .within)
 
-  did : RunFeeds a opts part (stateOf k) (length text - n) [] q
-  did = run-feeds a opts part (stateOf k) (length text - n) []
+  part-run : run a opts part (stateOf (s .core)) room ≡ q
+  part-run = run-room a opts part (stateOf (s .core)) room (length text - s .wrote) fits enough
+
+  did : RunFeeds a opts part (stateOf (s .core)) (length text - s .wrote) [] q
+  did = run-feeds a opts part (stateOf (s .core)) (length text - s .wrote) []
 
   -- a byte given needs a byte of text
   fewer : length (q .wrote) ≤ length part
   fewer =
-      rw (run-room a opts part (stateOf k) (length text - n) (length part) (omega (arith, size, f .behind, p .begins, p .within)) (omega arith))
-      (run-feeds a opts part (stateOf k) (length part) [] .wrote-in)
+      rw (run-room a opts part (stateOf (s .core)) (length text - s .wrote) (length part) enough (omega arith))
+      (run-feeds a opts part (stateOf (s .core)) (length part) [] .wrote-in)
 
-  part-goes : q .why ≡ P.all → Counting a opts text start (coreOf (q .state)) (i + q .took) (n + length (q .wrote)) (wrote ++ q .wrote)
+  part-goes : q .why ≡ P.all → Counting a opts text start (coreOf (q .state)) (s .took + q .took) (s .wrote + length (q .wrote)) (wrote ++ q .wrote)
   part-goes w =
-      let took : i + q .took ≡ e = omega (arith, did .all-took w, size, p .begins) in
-      let left : length text - n - length (q .wrote) ≡ length text - (n + length (q .wrote)) = omega arith in
+      let took : s .took + q .took ≡ e = omega (arith, did .all-took w, size, p .begins) in
+      let left : length text - s .wrote - length (q .wrote) ≡ length text - (s .wrote + length (q .wrote)) = omega arith in
       record {
         loop = record {
           within = omega (arith, took, p .within);
@@ -110,113 +143,100 @@ module _ {a opts : ℕ} {text : List ℕ} {start k : Core} {i n e room : ℕ} {w
           fits = omega (arith, fewer, size, f .behind, p .begins, p .within);
           same =
               f .loop .same
-              ∙ ap (λ (x : List ℕ). after i wrote (run a opts x (stateOf k) (length text - n))) cut
-              ∙ ap (after i wrote) (run-cut a opts part (drop e text) (stateOf k) (length text - n) w)
-              ∙ after-after i (q .took) wrote (q .wrote) _
+              ∙ ap (λ (x : List ℕ). after (s .took) wrote (run a opts x (stateOf (s .core)) (length text - s .wrote))) cut
+              ∙ ap (after (s .took) wrote) (run-cut a opts part (drop e text) (stateOf (s .core)) (length text - s .wrote) w)
+              ∙ after-after (s .took) (q .took) wrote (q .wrote) _
               ∙ rw (left, took);
-          sound = run-sound a opts h part (stateOf k) (length text - n) (f .loop .sound);
+          sound = run-sound a opts h part (stateOf (s .core)) (length text - s .wrote) (f .loop .sound);
           place = omega (arith, did .taken, f .loop .place);
         };
         behind = omega (arith, fewer, f .behind, did .all-took w);
       }
 
-  part-stops : (q .why ≡ P.all → ⊥)
-      → run a opts text (stateOf start) (length text) ≡ after i wrote q
+  part-stops : (q .why ≡ P.all → ⊥) → run a opts text (stateOf start) (length text) ≡ after (s .took) wrote q
   part-stops w =
       f .loop .same
-      ∙ ap (λ (x : List ℕ). after i wrote (run a opts x (stateOf k) (length text - n))) cut
-      ∙ ap (after i wrote) (run-stops a opts part (drop e text) (stateOf k) (length text - n) w)
+      ∙ ap (λ (x : List ℕ). after (s .took) wrote (run a opts x (stateOf (s .core)) (length text - s .wrote))) cut
+      ∙ ap (after (s .took) wrote) (run-stops a opts part (drop e text) (stateOf (s .core)) (length text - s .wrote) w)
 
-  module _ {r : Ran} (is : r ≡ ranAs (run a opts part (stateOf k) room)) where
+  -- what was reached with the part
+  abbrev reached : Counted a opts text start (thenAs s (ranAs q))
+  reached =
+      record {
+        wrote = wrote ++ q .wrote;
+        goes = λ x. part-goes (goes-is (q .why) x);
+        is = λ x. then-after s wrote q (f .loop .size) ∙ ap ranAs (sym (part-stops (stops-not (q .why) x)));
+        bytes = λ x. ap (λ (z : P.Ran). z .wrote) (part-stops (stops-not (q .why) x));
+      }
+
+  module _ {r : Ran} (is : r ≡ ranAs (run a opts part (stateOf (s .core)) room)) where
     so : r ≡ ranAs q
     so = is ∙ ap ranAs part-run
 
-    pub counting-sums : (i + r .took ≤ length text) × (n + r .wrote ≤ length text)
-    counting-sums =
-        subst (λ (z : Ran). (i + z .took ≤ length text) × (n + z .wrote ≤ length text)) (sym so)
-        (omega (arith, did .took-in, size, p .begins, p .within), omega (arith, fewer, size, f .behind, p .begins, p .within))
+    pub counted-then : Counted a opts text start (thenAs s r)
+    counted-then = subst (λ (z : Ran). Counted a opts text start (thenAs s z)) (sym so) reached
 
-    pub counting-goes : stops (r .why) ≡ false → Counting a opts text start (r .core) (i + r .took) (n + r .wrote) (wrote ++ q .wrote)
-    counting-goes w =
-        subst (λ (z : Ran). Counting a opts text start (z .core) (i + z .took) (n + z .wrote) (wrote ++ q .wrote)) (sym so)
-        (part-goes (goes-is (q .why) (ap (λ (z : Ran). stops (z .why)) (sym so) ∙ w)))
+    -- some byte was taken, where it goes on
+    pub counted-some : r .why ≡ W.All → 0 < r .took
+    counted-some =
+        subst (λ (z : Ran). z .why ≡ W.All → 0 < z .took) (sym so) (λ x. omega (arith, did .all-took (goes-is (q .why) x), size, p .begins))
 
-    -- all of the part was taken
-    pub counting-took : stops (r .why) ≡ false → i + r .took ≡ e
-    counting-took w =
-        subst (λ (z : Ran). i + z .took ≡ e) (sym so)
-        (omega (arith, did .all-took (goes-is (q .why) (ap (λ (z : Ran). stops (z .why)) (sym so) ∙ w)), size, p .begins))
-
-    -- the part was not all taken: the run over the text stops there too
-    pub counting-stops : stops (r .why) ≡ true
-        → Done a opts text start (length text) (record { core = r .core; why = r .why; took = i + r .took; wrote = n + r .wrote }) (wrote ++ q .wrote)
-    counting-stops w =
-        let s = part-stops (stops-not (q .why) (ap (λ (z : Ran). stops (z .why)) (sym so) ∙ w)) in
-        let more : Ran → Ran = λ z. record { core = z .core; why = z .why; took = i + z .took; wrote = n + z .wrote } in
-        let sum : n + length (q .wrote) ≡ length (wrote ++ q .wrote) = rw (length-append, f .loop .size) in
-        let told : ℕ → Ran = λ m. record { core = coreOf (q .state); why = whyAs (q .why); took = i + q .took; wrote = m } in
-        record { is = ap more so ∙ ap told sum ∙ ap ranAs (sym s); bytes = ap (λ (z : P.Ran). z .wrote) s }
-
-    pub tallying-goes : stops (r .why) ≡ false → Tallying a opts text start (r .core) (i + r .took) (n + r .wrote)
-    tallying-goes w = record { wrote = wrote ++ q .wrote; count = counting-goes w }
-
-    -- ---- the loop in place
-
-    module _ {buf out : List ℕ} (front : buf ≡ wrote ++ drop n text) (fill : out ≡ filled (run a opts part (stateOf k) room .wrote) (take (length buf - n) (drop n buf))) where
-      -- what the part gives follows what was given before, and every later byte is as it came
-      stored : take n buf ++ (out ++ drop (length buf - n) (drop n buf)) ≡ (wrote ++ q .wrote) ++ drop (n + length (q .wrote)) text
-      stored =
-          let size : length wrote ≡ n = f .loop .size in
-          let none : drop (length buf - n) (drop n buf) ≡ [] = drop-of-length-le (drop n buf) {i = length buf - n} (omega (arith, length-drop n buf)) in
-          let rest : drop n buf ≡ drop n text = ap (drop n) front ∙ drop-at wrote (drop n text) n size in
-          rw
-          (none, append-nil, fill, part-run, rest-all buf n, rest, ap (take n) front ∙ take-at wrote (drop n text) n size, drop-drop (length (q .wrote)) n text, append-assoc)
-
-      told : r .wrote ≡ length (q .wrote)
-      told = ap (λ (z : Ran). z .wrote) so
-
-      pub settling-goes : stops (r .why) ≡ false
-          → Settling a opts text start (take n buf ++ (out ++ drop (length buf - n) (drop n buf))) (r .core) (i + r .took) (n + r .wrote)
-      settling-goes w = record { wrote = wrote ++ q .wrote; count = counting-goes w; front = rw told stored }
-
-      pub settling-stops : {z : Ran} → z ≡ record { core = r .core; why = r .why; took = i + r .took; wrote = n + r .wrote } → stops (r .why) ≡ true
-          → (z ≡ ranAs (run a opts text (stateOf start) (length text))) × (take n buf ++ (out ++ drop (length buf - n) (drop n buf)) ≡ filled (run a opts text (stateOf start) (length text) .wrote) text)
-      settling-stops e w = let d = counting-stops w in (e ∙ d .is, rw (d .bytes, length-append, f .loop .size) stored)
+    -- in place: what the part gives follows what was given before, and every later byte is as it came
+    pub settled-then : {buf out : List ℕ} → buf ≡ wrote ++ drop (s .wrote) text
+        → out ≡ filled (run a opts part (stateOf (s .core)) room .wrote) (take (length buf - s .wrote) (drop (s .wrote) buf))
+        → Settled a opts text start (take (s .wrote) buf ++ (out ++ drop (length buf - s .wrote) (drop (s .wrote) buf))) (thenAs s r)
+    settled-then {buf} {out} front fill =
+        let lent : out ≡ filled (q .wrote) (take (length buf - s .wrote) (drop (s .wrote) buf)) =
+        fill ∙ ap (λ (z : P.Ran). filled (z .wrote) (take (length buf - s .wrote) (drop (s .wrote) buf))) part-run in
+        subst (λ (z : Ran). Settled a opts text start (take (s .wrote) buf ++ (out ++ drop (length buf - s .wrote) (drop (s .wrote) buf))) (thenAs s z)) (sym so)
+        (record { count = reached; front = stored-lent wrote (q .wrote) text (f .loop .size) front lent })
 
 -- ---- what the loop in place reads
 
-module _ {a opts : ℕ} {buf₀ : List ℕ} {start : Core} {buf : List ℕ} {k : Core} {i n : ℕ} (f : Settling a opts buf₀ start buf k i n) where
-  pub settling-size : length buf ≡ length buf₀
-  settling-size = ap length (f .front) ∙ simp (length-append, length-drop) (omega (arith, f .count .loop .size, f .count .loop .fits))
+module _ {a opts : ℕ} {buf₀ : List ℕ} {start : Core} {buf : List ℕ} {s : Ran} (h : a < 6) (f : Settled a opts buf₀ start buf s) where
+  pub settled-done : goesOn (s .why) (s .took) (length buf₀) ≡ false
+      → (s ≡ ranAs (run a opts buf₀ (stateOf start) (length buf₀))) × (buf ≡ filled (run a opts buf₀ (stateOf start) (length buf₀) .wrote) buf₀)
+  settled-done e =
+      let d = counted-done h (f .count) e in
+      let told : s .wrote ≡ length (run a opts buf₀ (stateOf start) (length buf₀) .wrote) = ap (λ (z : Ran). z .wrote) (d .0) in
+      (d .0, rw (← told, d .1) (f .front))
 
-  -- what lies ahead is as it came
-  ahead : drop i buf ≡ drop i buf₀
-  ahead =
-      let j : n + (i - n) ≡ i = omega (arith, f .count .behind) in
-      ap (drop i) (f .front)
-      ∙ ap (λ (m : ℕ). drop m (f .wrote ++ drop n buf₀)) (sym j ∙ ap (λ (m : ℕ). m + (i - n)) (sym (f .count .loop .size)))
-      ∙ drop-append-add (f .wrote) (drop n buf₀) (i - n)
-      ∙ drop-drop (i - n) n buf₀
-      ∙ ap (λ (m : ℕ). drop m buf₀) j
+  pub settled-size : length buf ≡ length buf₀
+  settled-size = go (all-or-not (s .why))
+    where
+      sum : length (f .count .wrote) ≡ s .wrote → length buf ≡ length buf₀
+      sum e = ap length (f .front) ∙ simp (length-append, length-drop) (omega (arith, e, counted-sums h (f .count) .1))
 
-  module _ {e : ℕ} (p : Part i e (length buf)) where
-    pub settling-ends : Part i e (length buf₀)
-    settling-ends = rw (← settling-size) p
+      go : (s .why ≡ W.All) ⊎ (s .why ≡ W.All → ⊥) → length buf ≡ length buf₀
+      go (inl e) = sum (f .count .goes e .loop .size)
+      go (inr n) = sum (sym (ap length (f .count .bytes n)) ∙ sym (ap (λ (z : Ran). z .wrote) (f .count .is n)))
 
-    pub settling-reads : length (take (e - i) (drop i buf)) ≡ e - i
-    settling-reads = rw ahead (part-size (f .count) settling-ends)
+  module _ {e : ℕ} (w : s .why ≡ W.All) (p : Part (s .took) e (length buf)) where
+    c : Counting a opts buf₀ start (s .core) (s .took) (s .wrote) (f .count .wrote)
+    c = f .count .goes w
 
-    module _ (aside : List ℕ) (copied : take (length (take (e - i) (drop i buf))) aside ≡ take (e - i) (drop i buf)) where
-      pub settling-part : take (e - i) aside ≡ take (e - i) (drop i buf₀)
-      settling-part = ap (λ (m : ℕ). take m aside) (sym settling-reads) ∙ copied ∙ ap (take (e - i)) ahead
+    pub settled-ends : Part (s .took) e (length buf₀)
+    settled-ends = rw (← settled-size) p
 
-      pub settling-whole : length (take (e - i) aside) ≡ e - i
-      settling-whole = ap length settling-part ∙ part-size (f .count) settling-ends
+    -- what lies ahead is as it came
+    ahead : drop (s .took) buf ≡ drop (s .took) buf₀
+    ahead =
+        let j : s .wrote + (s .took - s .wrote) ≡ s .took = omega (arith, c .behind) in
+        ap (drop (s .took)) (f .front)
+        ∙ ap (λ (m : ℕ). drop m (f .count .wrote ++ drop (s .wrote) buf₀)) (sym j ∙ ap (λ (m : ℕ). m + (s .took - s .wrote)) (sym (c .loop .size)))
+        ∙ drop-append-add (f .count .wrote) (drop (s .wrote) buf₀) (s .took - s .wrote)
+        ∙ drop-drop (s .took - s .wrote) (s .wrote) buf₀
+        ∙ ap (λ (m : ℕ). drop m buf₀) j
 
-      pub settling-fits : length (take (e - i) aside) ≤ length (take (length buf - n) (drop n buf))
-      settling-fits =
-          rw (settling-whole, rest-all buf n, length-drop n buf) (omega (arith, f .count .behind, p .begins, p .within))
+    pub settled-reads : length (take (e - s .took) (drop (s .took) buf)) ≡ e - s .took
+    settled-reads = rw ahead (part-size c settled-ends)
 
-  pub settling-done : {q r : Ran} → q ≡ r → Done a opts buf₀ start (length buf₀) r (f .wrote)
-      → (q ≡ ranAs (run a opts buf₀ (stateOf start) (length buf₀))) × (buf ≡ filled (run a opts buf₀ (stateOf start) (length buf₀) .wrote) buf₀)
-  settling-done e d = (e ∙ d .is, rw (d .bytes, f .count .loop .size) (f .front))
+    module _ (aside : List ℕ) (copied : take (length (take (e - s .took) (drop (s .took) buf))) aside ≡ take (e - s .took) (drop (s .took) buf)) where
+      pub settled-part : take (e - s .took) aside ≡ take (e - s .took) (drop (s .took) buf₀)
+      settled-part = ap (λ (m : ℕ). take m aside) (sym settled-reads) ∙ copied ∙ ap (take (e - s .took)) ahead
+
+      pub settled-whole : length (take (e - s .took) aside) ≡ e - s .took
+      settled-whole = ap length settled-part ∙ part-size c settled-ends
+
+      pub settled-fits : length (take (e - s .took) aside) ≤ length (take (length buf - s .wrote) (drop (s .wrote) buf))
+      settled-fits = rw (settled-whole, rest-all buf (s .wrote), length-drop (s .wrote) buf) (omega (arith, c .behind, p .begins, p .within))

@@ -6,10 +6,14 @@ use mathlib.Core.List.{List, _++_}
 use lib.ListN.{length, drop}
 use Rattle.reading.specs.Options.{allowed}
 use Rattle.reading.specs.Sound.{Sound}
+use Rattle.reading.specs.Buffer.{filled}
 use Rattle.reading.specs.Piece.{after, run}
 use Rattle.engine.specs.declared.rule.Core.{Core}
 use Rattle.engine.specs.declared.digits.Passed.{Passed}
+use Rattle.engine.specs.declared.piece.Why.the-variants as W
+use Rattle.engine.specs.declared.piece.Ran.{Ran}
 use Rattle.engine.specs.Meaning.{stateOf}
+use Rattle.engine.specs.Ran.{ranAs}
 
 -- i bytes are taken and the n bytes `wrote` are given, and what is left is the run of the rest from the state k into the room that is left
 pub record Loop (a opts : ℕ) (piece : List ℕ) (start : Core) (room : ℕ) (k : Core) (i n : ℕ) (wrote : List ℕ) : Type 0 where
@@ -36,6 +40,17 @@ coreAt k h r i = record { digits = k .digits + i; held = h % 2 ^ r; pads = 0; ta
 
 abbrev pub passedAs : Core → ℕ → ℕ → ℕ → ℕ → Passed
 passedAs k h r i n = record { core = coreAt k h r i; took = i; wrote = n }
+
+-- a run into the buffer came so far and goes on, or it stopped as the run over the whole piece does
+pub record Reached (a opts : ℕ) (k : Core) (piece out₀ out : List ℕ) (r : Ran) : Type 0 where
+  pub goes : r .why ≡ W.All → Filling a opts piece k out₀ out (r .core) (r .took) (r .wrote)
+  pub is : (r .why ≡ W.All → ⊥) → r ≡ ranAs (run a opts piece (stateOf k) (length out₀))
+  pub bytes : (r .why ≡ W.All → ⊥) → out ≡ filled (run a opts piece (stateOf k) (length out₀) .wrote) out₀
+
+-- the same, and some byte is taken where it goes on
+pub record Stretch (a opts : ℕ) (k : Core) (piece out₀ out : List ℕ) (r : Ran) : Type 0 where
+  pub reached : Reached a opts k piece out₀ out r
+  pub some : r .why ≡ W.All → 0 < length piece → 0 < r .took
 
 -- a part from i to e of a text that is so long
 pub record Part (i e len : ℕ) : Type 0 where

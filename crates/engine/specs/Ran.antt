@@ -1,7 +1,7 @@
 -- What a run over a piece gives, in the engine's types: the definitions of `reading` (Piece) with the answer's shape, and the buffer.
 -- Assumes nothing.
 use Prim.Native.Nat.{ℕ, _+_, _*_, _%_, _≤_, _^_}
-use mathlib.Core.Bool.{Bool, true, false, cond, _&&_}
+use mathlib.Core.Bool.{Bool, false, cond, _&&_}
 use mathlib.Core.List.{List, [], _∷_, _++_}
 use lib.Dec.{leb, ltb}
 use lib.ListN.{length, drop, getD}
@@ -38,12 +38,16 @@ whyAs P.all = W.All
 whyAs (P.refused k) = W.Refused (causeOf k)
 whyAs P.full = W.Full
 
--- a run stopped before the piece's end
-unfoldable pub stops : Why → Bool
-stops W.All = false
-stops (W.Refused c) = true
-stops W.Full = true
-stops W.Unfit = true
+-- a run that stopped for w after so many bytes of so many has bytes left to take
+unfoldable pub goesOn : Why → ℕ → ℕ → Bool
+goesOn W.All took len = ltb took len
+goesOn (W.Refused c) took len = false
+goesOn W.Full took len = false
+goesOn W.Unfit took len = false
+
+-- a run, and one more after it
+abbrev pub thenAs : Ran → Ran → Ran
+thenAs q r = record { core = r .core; why = r .why; took = q .took + r .took; wrote = q .wrote + r .wrote }
 
 abbrev pub ranAs : P.Ran → Ran
 ranAs r = record { core = coreOf (r .state); why = whyAs (r .why); took = r .took; wrote = length (r .wrote) }

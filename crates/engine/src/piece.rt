@@ -7,7 +7,7 @@ use crate::rule::Core;
 use crate::rule::Took;
 use crate::rule::rare;
 pub use reading::limit;
-ghost use Prim.Native.Nat.{_<_, _≤_};
+ghost use Prim.Native.Nat.{_+_, _<_, _≤_, _^_};
 ghost use mathlib.Core.Path.{_≡_};
 ghost use mathlib.Core.Bool.{true};
 ghost use lib.ListN.{length, take};
@@ -19,7 +19,7 @@ ghost use Rattle.engine.specs.Meaning.{stateOf};
 ghost use Rattle.engine.specs.Ran as Spec;
 ghost use Rattle.reading.specs.Buffer.{filled};
 ghost use Rattle.engine.specs.Ran.{Ready, ranAs};
-ghost use Rattle.engine.specs.Loop.{Part};
+ghost use Rattle.engine.specs.Loop.{Part, Stretch};
 
 // Why a run over a piece stopped. Unfit: the choice or the state is none that reading starts from, and nothing was done.
 pub enum Why {
@@ -60,6 +60,65 @@ fn stopped(core: Core, why: Why, took: usize, wrote: usize) -> Ran
     }
 }
 
+// A run, and one more after it: the counts are added.
+fn then(first: Ran, next: Ran) -> Ran
+    requires { ⌜ first .took + next .took < 2 ^ 64 ⌝ }
+    requires { ⌜ first .wrote + next .wrote < 2 ^ 64 ⌝ }
+    ensures { λ r. ⌜ r ≡ Spec.thenAs first next ⌝ }
+{
+    let core = next.core;
+    let why = next.why;
+    stopped(core, why, first.took + next.took, first.wrote + next.wrote)
+}
+
+// Whether a run that came so far has bytes left to take.
+fn goes_on(r: Ran, len: usize) -> bool
+    ensures { λ x. ⌜ x ≡ Spec.goesOn (r .why) (r .took) len ⌝ }
+{
+    let took = r.took;
+    let why = r.why;
+    match why {
+        Why::All => took < len,
+        Why::Refused(_) => false,
+        Why::Full => false,
+        Why::Unfit => false,
+    }
+}
+
+// Digits as they stand, and the byte after them, which `rare` tells of.
+fn stretch(
+    t: &[u8; 1536],
+    alphabet: usize,
+    options: usize,
+    start: Core,
+    piece: &[u8],
+    out: &mut [u8],
+) -> Ran
+    requires { ⌜ now t ≡ entries ⌝ }
+    requires { ⌜ Options.allowed alphabet options ≡ true ⌝ }
+    requires { ⌜ Ready alphabet start (length (now piece)) ⌝ }
+    ensures { λ r. ⌜ Stretch alphabet options start (now (piece .entry)) (now (out .entry)) (now (out .exit)) r ⌝ }
+{
+    let p = pass(t, alphabet, start, piece, out);
+    let k = p.core;
+    let i = p.took;
+    let n = p.wrote;
+    if piece.len() <= i {
+        return stopped(k, Why::All, i, n);
+    }
+    match rare(t, alphabet, options, k, piece[i]) {
+        Took::Takes(c) => stopped(c, Why::All, i + 1, n),
+        Took::Gives(x, c) => {
+            if n == out.len() {
+                return stopped(k, Why::Full, i, n);
+            }
+            out[n] = x; // n is below the room
+            stopped(c, Why::All, i + 1, n + 1)
+        }
+        Took::Refuses(e) => stopped(k, Why::Refused(e), i, n),
+    }
+}
+
 fn fill(
     t: &[u8; 1536],
     alphabet: usize,
@@ -74,34 +133,14 @@ fn fill(
     ensures { λ r. ⌜ r ≡ ranAs (Piece.run alphabet options (now (piece .entry)) (stateOf start) (length (now (out .entry)))) ⌝ }
     ensures { λ r. ⌜ now (out .exit) ≡ filled (Piece.run alphabet options (now (piece .entry)) (stateOf start) (length (now (out .entry))) .wrote) (now (out .entry)) ⌝ }
 {
-    let mut k = start;
-    let mut i: usize = 0;
-    let mut n: usize = 0;
-    while i < piece.len() {
-        let p = pass(t, alphabet, k, &piece[i..], &mut out[n..]);
-        k = p.core;
-        i += p.took;
-        n += p.wrote;
-        if i < piece.len() {
-            match rare(t, alphabet, options, k, piece[i]) {
-                Took::Takes(c) => {
-                    k = c;
-                    i += 1;
-                }
-                Took::Gives(x, c) => {
-                    if n == out.len() {
-                        return stopped(k, Why::Full, i, n);
-                    }
-                    out[n] = x; // n is below the room
-                    n += 1;
-                    k = c;
-                    i += 1;
-                }
-                Took::Refuses(e) => return stopped(k, Why::Refused(e), i, n),
-            }
-        }
+    let mut s = stopped(start, Why::All, 0, 0);
+    while goes_on(s, piece.len()) {
+        let i = s.took;
+        let n = s.wrote;
+        let r = stretch(t, alphabet, options, s.core, &piece[i..], &mut out[n..]);
+        s = then(s, r);
     }
-    stopped(k, Why::All, i, n)
+    s
 }
 
 // The end of the part that begins at i and has at most 256 bytes.
@@ -115,41 +154,32 @@ fn part_end(i: usize, len: usize) -> usize
     i + 256
 }
 
-// Whether a run stopped before the piece's end.
-fn stops(why: Why) -> bool
-    ensures { λ r. ⌜ r ≡ Spec.stops why ⌝ }
+// A part, counted alone: what it gives is put aside.
+fn counted(t: &[u8; 1536], alphabet: usize, options: usize, start: Core, part: &[u8]) -> Ran
+    requires { ⌜ now t ≡ entries ⌝ }
+    requires { ⌜ Options.allowed alphabet options ≡ true ⌝ }
+    requires { ⌜ Ready alphabet start (length (now part)) ⌝ }
+    ensures { λ r. ⌜ r ≡ ranAs (Piece.run alphabet options (now (part .entry)) (stateOf start) 256) ⌝ }
 {
-    match why {
-        Why::All => false,
-        Why::Refused(_) => true,
-        Why::Full => true,
-        Why::Unfit => true,
-    }
+    let mut aside: [u8; 256] = [0; 256];
+    fill(t, alphabet, options, start, part, &mut aside)
 }
 
-// Counting alone: what a part gives is put aside, and room never lacks, since a byte needs more than one byte of text.
+// Counting alone: room never lacks, since a byte needs more than one byte of text.
 fn tally(t: &[u8; 1536], alphabet: usize, options: usize, start: Core, text: &[u8]) -> Ran
     requires { ⌜ now t ≡ entries ⌝ }
     requires { ⌜ Options.allowed alphabet options ≡ true ⌝ }
     requires { ⌜ Ready alphabet start (length (now text)) ⌝ }
     ensures { λ r. ⌜ r ≡ ranAs (Piece.run alphabet options (now (text .entry)) (stateOf start) (length (now (text .entry)))) ⌝ }
 {
-    let mut aside: [u8; 256] = [0; 256];
-    let mut k = start;
-    let mut i: usize = 0;
-    let mut n: usize = 0;
-    while i < text.len() {
+    let mut s = stopped(start, Why::All, 0, 0);
+    while goes_on(s, text.len()) {
+        let i = s.took;
         let e = part_end(i, text.len());
-        let r = fill(t, alphabet, options, k, &text[i..e], &mut aside);
-        let why = r.why;
-        k = r.core;
-        i += r.took;
-        n += r.wrote;
-        if stops(why) {
-            return stopped(k, why, i, n);
-        }
+        let r = counted(t, alphabet, options, s.core, &text[i..e]);
+        s = then(s, r);
     }
-    stopped(k, Why::All, i, n)
+    s
 }
 
 // The bytes of a part, put aside.
@@ -174,23 +204,17 @@ fn settle(t: &[u8; 1536], alphabet: usize, options: usize, start: Core, buf: &mu
     ensures { λ r. ⌜ r ≡ ranAs (Piece.run alphabet options (now (buf .entry)) (stateOf start) (length (now (buf .entry)))) ⌝ }
     ensures { λ r. ⌜ now (buf .exit) ≡ filled (Piece.run alphabet options (now (buf .entry)) (stateOf start) (length (now (buf .entry))) .wrote) (now (buf .entry)) ⌝ }
 {
-    let mut k = start;
-    let mut i: usize = 0;
-    let mut n: usize = 0;
-    while i < buf.len() {
+    let mut s = stopped(start, Why::All, 0, 0);
+    while goes_on(s, buf.len()) {
+        let i = s.took;
+        let n = s.wrote;
         let e = part_end(i, buf.len());
         let m = e - i;
         let aside = copied(&buf[i..e]);
-        let r = fill(t, alphabet, options, k, &aside[..m], &mut buf[n..]); // n is never past i
-        let why = r.why;
-        k = r.core;
-        i += r.took;
-        n += r.wrote;
-        if stops(why) {
-            return stopped(k, why, i, n);
-        }
+        let r = fill(t, alphabet, options, s.core, &aside[..m], &mut buf[n..]); // n is never past i
+        s = then(s, r);
     }
-    stopped(k, Why::All, i, n)
+    s
 }
 
 // Whether the held bits are as many as the digits leave.

@@ -1,78 +1,108 @@
--- `piece::settle`: each part is taken as the definition does, or it stops as it does. Assumes nothing.
-use Prim.Native.Nat.{ℕ, _+_, _-_, _<_, _≤_, _^_}
-use mathlib.Core.Path.{_≡_, sym, _∙_, subst}
-use mathlib.Core.List.{List}
+-- `piece::settle`: a run in place, made in parts. Assumes nothing.
+use Prim.Native.Nat.{ℕ, _-_, _<_, _≤_}
+use mathlib.Core.Path.{_≡_, refl, sym, ap, _∙_, subst}
 use native.Mathlib.Omega.{arith}
-use lib.ListN.{length, take, drop, length-take}
 use borrow.Author.Needs.{needs}
-use borrow.Rule.Slice.PartMut.{same-len-mid}
 use Rattle.reading.proofs.LimitLaws.{limit-small}
 use Rattle.reading.proofs.OptionLaws.{allowed-alphabet}
-use Rattle.engine.specs.Ran.{Ready}
+use Rattle.engine.specs.declared.rule.Core.{Core}
+use Rattle.engine.specs.declared.piece.Why.the-variants as W
+use Rattle.engine.specs.declared.piece.Ran.{Ran}
+use mathlib.Core.List.{List, _++_}
+use lib.ListN.{length, take, drop, length-take}
+use Rattle.engine.specs.Ran.{goesOn, thenAs, Ready}
 use Rattle.engine.specs.Loop.{Part}
-use Rattle.engine.proofs.Loops.{loop-all}
-use Rattle.engine.proofs.Parts.{Settling, settling-begins, settling-size, settling-ends, settling-reads, settling-part, settling-whole, settling-fits, part-ready, counting-sums, counting-took, settling-goes, settling-stops, settling-done}
+use Rattle.engine.proofs.Reaching.{goes-on, left, left-less}
+use Rattle.engine.proofs.Parts.{Settled, settled-begins, counted-sums, part-ready, counted-some, settled-then, settled-done, settled-size, settled-ends, settled-reads, settled-part, settled-whole, settled-fits}
 use Rattle.engine.proofs.piece.settle.Statement.{statement}
 use Rattle.engine.proofs.piece.settle.Tie as tie
 
 abbrev Inv-loop : tie.InvT-loop
-Inv-loop t alphabet options buf₀ k₀ i₀ n₀ buf k i n = Settling alphabet options buf₀ k₀ buf k i n
+Inv-loop t alphabet options buf₀ s₀ buf s = Settled alphabet options buf₀ (s₀ .core) buf s
 
 abbrev μ-loop : tie.MeasureT-loop
-μ-loop t alphabet options buf₀ k₀ i₀ n₀ buf k i n = length buf₀ - i
+μ-loop t alphabet options buf₀ s₀ buf s = left (s .why) (s .took) (length buf₀)
 
 -- ---- what is known in a turn
 
 abbrev start : tie.At-loop Inv-loop μ-loop → tie.Start Inv-loop μ-loop
-start h = h .before .before
+start h = h .before .before .before
 
 known : (h : tie.At-loop Inv-loop μ-loop) → start h .args .alphabet < 6
 known h = allowed-alphabet _ _ (start h .pre .1 .0)
 
-text-fits : (h : tie.At-loop Inv-loop μ-loop) → length (start h .args .buf .now) < 2 ^ 40
-text-fits h = omega (arith, start h .pre .1 .1 .within, limit-small)
+began : (h : tie.At-loop Inv-loop μ-loop) → h .before .stopped .result .core ≡ start h .args .start
+began h = ap (λ (z : Ran). z .core) (h .before .stopped .ensures)
+
+so-far : (h : tie.At-loop Inv-loop μ-loop)
+    → let s = start h in Settled (s .args .alphabet) (s .args .options) (s .args .buf .now) (s .args .start) (h .loop .buf) (h .loop .s)
+so-far h =
+    let s = start h in
+    subst (λ (k : Core). Settled (s .args .alphabet) (s .args .options) (s .args .buf .now) k (h .loop .buf) (h .loop .s)) (began h) (h .loop .inv)
+
+size : (h : tie.At-loop Inv-loop μ-loop) → length (h .loop .buf) ≡ length (start h .args .buf .now)
+size h = settled-size (known h) (so-far h)
+
+going : (c : tie.Then1 Inv-loop μ-loop) → let h = c .before .before in (h .loop .s .why ≡ W.All) × (h .loop .s .took < length (h .loop .buf))
+going c = goes-on _ _ _ (sym (c .before .goes-on .ensures) ∙ c .if1 .taken)
 
 -- the part that was put aside
+abbrev end : tie.After-copied Inv-loop μ-loop → tie.After-part-end Inv-loop μ-loop
+end y = y .before .before .before
+
 abbrev head : tie.After-copied Inv-loop μ-loop → tie.At-loop Inv-loop μ-loop
-head y = y .before .before .before .before .before
+head y = end y .before .before .before
 
-abbrev end : tie.After-copied Inv-loop μ-loop → ℕ
-end y = y .before .before .before .part-end .result
+all : (y : tie.After-copied Inv-loop μ-loop) → head y .loop .s .why ≡ W.All
+all y = going (end y .before) .0
 
-part : (y : tie.After-copied Inv-loop μ-loop) → Part (head y .loop .i) (end y) (length (head y .loop .buf))
-part y = y .before .before .before .part-end .ensures
-
-ends : (y : tie.After-copied Inv-loop μ-loop) → Part (head y .loop .i) (end y) (length (start (head y) .args .buf .now))
-ends y = settling-ends (head y .loop .inv) (part y)
+ends : (y : tie.After-copied Inv-loop μ-loop) → Part (head y .loop .s .took) (end y .part-end .result) (length (start (head y) .args .buf .now))
+ends y = settled-ends (known (head y)) (so-far (head y)) (all y) (end y .part-end .ensures)
 
 is-part : (y : tie.After-copied Inv-loop μ-loop)
-    → take (end y - head y .loop .i) (y .copied .result) ≡ take (end y - head y .loop .i) (drop (head y .loop .i) (start (head y) .args .buf .now))
-is-part y = settling-part (head y .loop .inv) (part y) (y .copied .result) (y .copied .ensures)
+    → let m = end y .part-end .result - head y .loop .s .took in take m (y .copied .result) ≡ take m (drop (head y .loop .s .took) (start (head y) .args .buf .now))
+is-part y = settled-part (known (head y)) (so-far (head y)) (all y) (end y .part-end .ensures) (y .copied .result) (y .copied .ensures)
 
-whole : (y : tie.After-copied Inv-loop μ-loop) → length (take (end y - head y .loop .i) (y .copied .result)) ≡ end y - head y .loop .i
-whole y = settling-whole (head y .loop .inv) (part y) (y .copied .result) (y .copied .ensures)
+whole : (y : tie.After-copied Inv-loop μ-loop) → let m = end y .part-end .result - head y .loop .s .took in length (take m (y .copied .result)) ≡ m
+whole y = settled-whole (known (head y)) (so-far (head y)) (all y) (end y .part-end .ensures) (y .copied .result) (y .copied .ensures)
 
+-- after the part
 abbrev from : tie.After-fill Inv-loop μ-loop → tie.After-copied Inv-loop μ-loop
 from f = f .before .before .before
 
 fits : (f : tie.After-fill Inv-loop μ-loop)
-    → let y = from f in let h = head y in length (take (end y - h .loop .i) (y .copied .result)) ≤ length (take (length (h .loop .buf) - h .loop .n) (drop (h .loop .n) (h .loop .buf)))
-fits f = let y = from f in settling-fits (head y .loop .inv) (part y) (y .copied .result) (y .copied .ensures)
+    → let y = from f in let l = head y .loop in length (take (end y .part-end .result - l .s .took) (y .copied .result)) ≤ length (take (length (l .buf) - l .s .wrote) (drop (l .s .wrote) (l .buf)))
+fits f = let y = from f in settled-fits (known (head y)) (so-far (head y)) (all y) (end y .part-end .ensures) (y .copied .result) (y .copied .ensures)
 
-sums : (f : tie.After-fill Inv-loop μ-loop)
-    → let h = head (from f) in let n = length (start h .args .buf .now) in (h .loop .i + f .fill .result .took ≤ n) × (h .loop .n + f .fill .result .wrote ≤ n)
-sums f =
+abbrev buf : tie.After-fill Inv-loop μ-loop → List ℕ
+buf f =
+    let l = head (from f) .loop in
+    take (l .s .wrote) (l .buf) ++ (f .fill .last .1 .1 .1 .1 .1 .0 ++ drop (length (l .buf) - l .s .wrote) (drop (l .s .wrote) (l .buf)))
+
+next : (f : tie.After-fill Inv-loop μ-loop)
+    → let h = head (from f) in let s = start h in Settled (s .args .alphabet) (s .args .options) (s .args .buf .now) (s .args .start) (buf f) (thenAs (h .loop .s) (f .fill .result))
+next f =
     let y = from f in
     let h = head y in
-    counting-sums (known h) (h .loop .inv .count) (ends y) (is-part y) (fits f) (f .fill .ensures .0)
+    settled-then (h .loop .s) (known h) (so-far h .count .goes (all y)) (ends y) (is-part y) (fits f) (f .fill .ensures .0) (so-far h .front) (f .fill .ensures .1)
 
 -- ---- the needs
 
+stopped-requires : tie.Need-stopped-requires Inv-loop μ-loop
+stopped-requires c κs = search needs
+
 loop-holds : tie.Need-loop-holds Inv-loop μ-loop
-loop-holds c = settling-begins _ _ _ _ (c .before .pre .1 .1)
+loop-holds c =
+    let s = c .before .before in
+    let e = c .stopped .ensures in
+    subst (λ (k : Core). Settled (s .args .alphabet) (s .args .options) (s .args .buf .now) k (s .args .buf .now) (c .stopped .result))
+    (sym (ap (λ (z : Ran). z .core) e)) (settled-begins e (s .pre .1 .1))
+
+goes-on-requires : tie.Need-goes-on-requires Inv-loop μ-loop
+goes-on-requires c κs = search needs
 
 part-end-requires : tie.Need-part-end-requires Inv-loop μ-loop
-part-end-requires c κs = search needs
+part-end-requires c κs = going c .1
 
 sub-m : tie.Need-sub-m Inv-loop μ-loop
 sub-m c = omega (arith, c .part-end .ensures .begins)
@@ -87,19 +117,22 @@ part-copied-end : tie.Need-part-copied-end Inv-loop μ-loop
 part-copied-end c = omega (arith, c .before .part-end .ensures .within)
 
 copied-requires : tie.Need-copied-requires Inv-loop μ-loop
-copied-requires c κs = let h = c .before .before .before .before in omega (arith, settling-reads (h .loop .inv) (c .before .before .part-end .ensures), c .before .before .part-end .ensures .small)
+copied-requires c κs =
+    let e = c .before .before in
+    let h = e .before .before .before in
+    omega (arith, settled-reads (known h) (so-far h) (going (e .before) .0) (e .part-end .ensures), e .part-end .ensures .small)
 
 array-share-prefix-aside : tie.Need-array-share-prefix-aside Inv-loop μ-loop
-array-share-prefix-aside c = omega (arith, whole c, length-take (end c - head c .loop .i) (c .copied .result))
+array-share-prefix-aside c = omega (arith, whole c, length-take (end c .part-end .result - head c .loop .s .took) (c .copied .result))
 
 slice-aggregate-fill : tie.Need-slice-aggregate-fill Inv-loop μ-loop
 slice-aggregate-fill c = sym (whole (c .before))
 
 sub-fill : tie.Need-sub-fill Inv-loop μ-loop
-sub-fill c = let f = head (c .before) .loop .inv in omega (arith, settling-size f, f .count .loop .fits)
+sub-fill c = let h = head (c .before) in omega (arith, size h, counted-sums (known h) (so-far h .count) .1)
 
 part-fill-start : tie.Need-part-fill-start Inv-loop μ-loop
-part-fill-start c = let f = head (c .before) .loop .inv in omega (arith, settling-size f, f .count .loop .fits)
+part-fill-start c = let h = head (c .before) in omega (arith, size h, counted-sums (known h) (so-far h .count) .1)
 
 part-fill-end : tie.Need-part-fill-end Inv-loop μ-loop
 part-fill-end c = search needs
@@ -109,59 +142,38 @@ fill-requires c κs =
     let y = c .before .before in
     let h = head y in
     let s = start h in
-    (s .pre .0, (s .pre .1 .0, subst (λ (p : List ℕ). Ready (s .args .alphabet) (h .loop .k) (length p)) (sym (is-part y)) (part-ready (h .loop .inv .count) (ends y) (s .pre .1 .1))))
+    (s .pre .0, (s .pre .1 .0, subst (λ (p : List ℕ). Ready (s .args .alphabet) (h .loop .s .core) (length p)) (sym (is-part y)) (part-ready (so-far h .count .goes (all y)) (ends y) (s .pre .1 .1))))
 
-add-i : tie.Need-add-i Inv-loop μ-loop
-add-i c = let f = c .before .before .before .before in omega (arith, sums f .0, text-fits (head (from f)))
-
-add-n : tie.Need-add-n Inv-loop μ-loop
-add-n c = let f = c .before .before .before .before .before in omega (arith, sums f .1, text-fits (head (from f)))
-
-stops-requires : tie.Need-stops-requires Inv-loop μ-loop
-stops-requires c κs = search needs
-
-stopped-requires : tie.Need-stopped-requires Inv-loop μ-loop
-stopped-requires c κs = search needs
-
-same-length : tie.Need-same-length Inv-loop μ-loop
-same-length c =
-    let f = c .before .before .before .before .before .before .before .before in
+then-requires : tie.Need-then-requires Inv-loop μ-loop
+then-requires c κs =
+    let f = c .before .before in
     let h = head (from f) in
-    same-len-mid (h .loop .n) (length (h .loop .buf) - h .loop .n) (h .loop .buf) (f .fill .last .1 .1 .1 .1 .1 .0) (f .fill .kept .1 .1 .1 .1 .1 .0)
-    ∙ settling-size (h .loop .inv)
-
-returns : tie.Need-returns Inv-loop μ-loop
-returns c =
-    let f = c .before .before .before .before .before .before .before .before in
-    let y = from f in
-    let h = head y in
-    settling-stops (known h) (h .loop .inv .count) (ends y) (is-part y) (fits f) (f .fill .ensures .0) (h .loop .inv .front) (f .fill .ensures .1) (c .stopped .ensures) (sym (c .before .before .stops .ensures) ∙ c .before .if1 .taken)
+    let n = counted-sums (known h) (next f .count) in
+    (omega (arith, n .0, start h .pre .1 .1 .within, limit-small), omega (arith, n .1, start h .pre .1 .1 .within, limit-small))
 
 loop-less : tie.Need-loop-less Inv-loop μ-loop
 loop-less c =
-    let f = c .before .before .before .before .before .before .before in
+    let f = c .before .before .before in
     let y = from f in
     let h = head y in
-    omega (arith, ends y .begins, ends y .within, counting-took (known h) (h .loop .inv .count) (ends y) (is-part y) (fits f) (f .fill .ensures .0) (sym (c .before .stops .ensures) ∙ c .if1 .left))
+    left-less (h .loop .s) (f .fill .result) (length (start h .args .buf .now)) (all y) (omega (arith, size h, going (end y .before) .1)) (c .then .ensures)
+    (counted-some (h .loop .s) (known h) (so-far h .count .goes (all y)) (ends y) (is-part y) (fits f) (f .fill .ensures .0))
 
 loop-again : tie.Need-loop-again Inv-loop μ-loop
 loop-again c =
-    let f = c .before .before .before .before .before .before .before in
-    let y = from f in
-    let h = head y in
-    settling-goes (known h) (h .loop .inv .count) (ends y) (is-part y) (fits f) (f .fill .ensures .0) (h .loop .inv .front) (f .fill .ensures .1) (sym (c .before .stops .ensures) ∙ c .if1 .left)
+    let f = c .before .before .before in
+    let h = head (from f) in
+    let s = start h in
+    let same : Core → Ran → Type 0 = λ k r. Settled (s .args .alphabet) (s .args .options) (s .args .buf .now) k (buf f) r in
+    subst (λ (k : Core). same k (c .then .result)) (sym (began h)) (subst (same (s .args .start)) (sym (c .then .ensures)) (next f))
 
-stopped-requires-2 : tie.Need-stopped-requires-2 Inv-loop μ-loop
-stopped-requires-2 c κs = search needs
+same-length : tie.Need-same-length Inv-loop μ-loop
+same-length c = size (c .before .before)
 
-same-length-2 : tie.Need-same-length-2 Inv-loop μ-loop
-same-length-2 c = settling-size (c .before .before .loop .inv)
-
-returns-2 : tie.Need-returns-2 Inv-loop μ-loop
-returns-2 c =
+returns : tie.Need-returns Inv-loop μ-loop
+returns c =
     let h = c .before .before in
-    let f = h .loop .inv in
-    settling-done f (c .stopped2 .ensures) (loop-all (known h) (f .count .loop) (omega (arith, settling-size f, c .before .loop-test .left)))
+    settled-done (known h) (so-far h) (ap (goesOn (h .loop .s .why) (h .loop .s .took)) (sym (size h)) ∙ sym (c .before .goes-on .ensures) ∙ c .if1 .left)
 
 pub settle-spec : {M : Type 1} → statement M
 settle-spec =
@@ -169,7 +181,9 @@ settle-spec =
     (tie.spec
     Inv-loop
     μ-loop
+    stopped-requires
     loop-holds
+    goes-on-requires
     part-end-requires
     sub-m
     sub-copied
@@ -182,14 +196,8 @@ settle-spec =
     part-fill-start
     part-fill-end
     fill-requires
-    add-i
-    add-n
-    stops-requires
-    stopped-requires
-    same-length
-    returns
+    then-requires
     loop-less
     loop-again
-    stopped-requires-2
-    same-length-2
-    returns-2)
+    same-length
+    returns)

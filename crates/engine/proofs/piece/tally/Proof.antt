@@ -1,115 +1,123 @@
--- `piece::tally`: each part is taken as the definition does, or it stops as it does. Assumes nothing.
-use Prim.Native.Nat.{ℕ, _+_, _-_, _<_, _≤_, _^_}
-use mathlib.Core.Path.{_≡_, refl, sym, _∙_}
+-- `piece::tally`: a run that counts, made in parts. Assumes nothing.
+use Prim.Native.Nat.{ℕ, _-_, _<_, _≤_}
+use mathlib.Core.Path.{_≡_, refl, sym, ap, _∙_, subst}
 use native.Mathlib.Omega.{arith}
-use lib.ListN.{length, take, drop}
 use borrow.Author.Needs.{needs}
 use Rattle.reading.proofs.LimitLaws.{limit-small}
 use Rattle.reading.proofs.OptionLaws.{allowed-alphabet}
-use Rattle.engine.specs.Loop.{Part}
-use Rattle.engine.proofs.Loops.{loop-all}
-use Rattle.engine.proofs.Parts.{Tallying, tallying-begins, part-size, part-ready, counting-sums, counting-took, tallying-goes, counting-stops}
+use Rattle.engine.specs.declared.rule.Core.{Core}
+use Rattle.engine.specs.declared.piece.Why.the-variants as W
+use Rattle.engine.specs.declared.piece.Ran.{Ran}
+use lib.ListN.{length, take, drop}
+use Rattle.engine.specs.Ran.{thenAs}
+use Rattle.engine.proofs.Reaching.{goes-on, left, left-less}
+use Rattle.engine.proofs.Parts.{Counting, Counted, counted-begins, counted-sums, counted-done, part-size, part-ready, counted-then, counted-some}
 use Rattle.engine.proofs.piece.tally.Statement.{statement}
 use Rattle.engine.proofs.piece.tally.Tie as tie
 
 abbrev Inv-loop : tie.InvT-loop
-Inv-loop t alphabet options text aside₀ k₀ i₀ n₀ aside k i n = (length aside ≡ 256) × Tallying alphabet options text k₀ k i n
+Inv-loop t alphabet options text s₀ s = Counted alphabet options text (s₀ .core) s
 
 abbrev μ-loop : tie.MeasureT-loop
-μ-loop t alphabet options text aside₀ k₀ i₀ n₀ aside k i n = length text - i
+μ-loop t alphabet options text s₀ s = left (s .why) (s .took) (length text)
 
 -- ---- what is known in a turn
 
 abbrev start : tie.At-loop Inv-loop μ-loop → tie.Start Inv-loop μ-loop
-start h = h .before .before
+start h = h .before .before .before
 
 known : (h : tie.At-loop Inv-loop μ-loop) → start h .args .alphabet < 6
 known h = allowed-alphabet _ _ (start h .pre .1 .0)
 
-text-fits : (h : tie.At-loop Inv-loop μ-loop) → length (start h .args .text .now) < 2 ^ 40
-text-fits h = omega (arith, start h .pre .1 .1 .within, limit-small)
+began : (h : tie.At-loop Inv-loop μ-loop) → h .before .stopped .result .core ≡ start h .args .start
+began h = ap (λ (z : Ran). z .core) (h .before .stopped .ensures)
 
-abbrev head : tie.After-fill Inv-loop μ-loop → tie.At-loop Inv-loop μ-loop
-head f = f .before .before .before .before .before
+so-far : (h : tie.At-loop Inv-loop μ-loop) → let s = start h in Counted (s .args .alphabet) (s .args .options) (s .args .text .now) (s .args .start) (h .loop .s)
+so-far h =
+    let s = start h in subst (λ (k : Core). Counted (s .args .alphabet) (s .args .options) (s .args .text .now) k (h .loop .s)) (began h) (h .loop .inv)
 
-abbrev end : tie.After-fill Inv-loop μ-loop → ℕ
-end f = f .before .before .before .part-end .result
+abbrev head : tie.After-part-end Inv-loop μ-loop → tie.At-loop Inv-loop μ-loop
+head e = e .before .before .before
 
-part : (f : tie.After-fill Inv-loop μ-loop) → Part (head f .loop .i) (end f) (length (start (head f) .args .text .now))
-part f = f .before .before .before .part-end .ensures
+going : (c : tie.Then1 Inv-loop μ-loop) → let h = c .before .before in (h .loop .s .why ≡ W.All) × (h .loop .s .took < length (start h .args .text .now))
+going c = goes-on _ _ _ (sym (c .before .goes-on .ensures) ∙ c .if1 .taken)
 
--- the part is no longer than what it is read into
-fits : (f : tie.After-fill Inv-loop μ-loop)
-    → length (take (end f - head f .loop .i) (drop (head f .loop .i) (start (head f) .args .text .now))) ≤ length (head f .loop .aside)
-fits f = omega (arith, part-size (head f .loop .inv .1 .count) (part f), part f .small, head f .loop .inv .0)
+counting : (e : tie.After-part-end Inv-loop μ-loop)
+    → let h = head e in let s = start h in Counting (s .args .alphabet) (s .args .options) (s .args .text .now) (s .args .start) (h .loop .s .core) (h .loop .s .took) (h .loop .s .wrote) (so-far h .wrote)
+counting e = so-far (head e) .goes (going (e .before) .0)
 
-sums : (f : tie.After-fill Inv-loop μ-loop)
-    → let n = length (start (head f) .args .text .now) in (head f .loop .i + f .fill .result .took ≤ n) × (head f .loop .n + f .fill .result .wrote ≤ n)
-sums f = let h = head f in counting-sums (known h) (h .loop .inv .1 .count) (part f) refl (fits f) (f .fill .ensures .0)
+abbrev end : tie.After-counted Inv-loop μ-loop → tie.After-part-end Inv-loop μ-loop
+end y = y .before .before
+
+fits : (y : tie.After-counted Inv-loop μ-loop)
+    → let e = end y in let i = head e .loop .s .took in length (take (e .part-end .result - i) (drop i (start (head e) .args .text .now))) ≤ 256
+fits y = let e = end y in omega (arith, part-size (counting e) (e .part-end .ensures), e .part-end .ensures .small)
+
+next : (y : tie.After-counted Inv-loop μ-loop)
+    → let h = head (end y) in let s = start h in Counted (s .args .alphabet) (s .args .options) (s .args .text .now) (s .args .start) (thenAs (h .loop .s) (y .counted .result))
+next y =
+    let e = end y in
+    let h = head e in
+    counted-then (h .loop .s) (known h) (counting e) (e .part-end .ensures) refl (fits y) (y .counted .ensures)
 
 -- ---- the needs
-
-loop-holds : tie.Need-loop-holds Inv-loop μ-loop
-loop-holds c = (search needs, tallying-begins _ _ _ _ (c .before .pre .1 .1))
-
-part-end-requires : tie.Need-part-end-requires Inv-loop μ-loop
-part-end-requires c κs = search needs
-
-sub-fill : tie.Need-sub-fill Inv-loop μ-loop
-sub-fill c = omega (arith, c .part-end .ensures .begins)
-
-part-fill-start : tie.Need-part-fill-start Inv-loop μ-loop
-part-fill-start c = omega (arith, c .part-end .ensures .begins)
-
-part-fill-end : tie.Need-part-fill-end Inv-loop μ-loop
-part-fill-end c = omega (arith, c .part-end .ensures .within)
-
-slice-aggregate-fill : tie.Need-slice-aggregate-fill Inv-loop μ-loop
-slice-aggregate-fill c = sym (c .before .before .before .before .loop .inv .0)
-
-fill-requires : tie.Need-fill-requires Inv-loop μ-loop
-fill-requires c κs =
-    let h = c .before .before .before .before in
-    let s = start h in
-    (s .pre .0, (s .pre .1 .0, part-ready (h .loop .inv .1 .count) (c .before .before .part-end .ensures) (s .pre .1 .1)))
-
-add-i : tie.Need-add-i Inv-loop μ-loop
-add-i c = let f = c .before .before .before in omega (arith, sums f .0, text-fits (head f))
-
-add-n : tie.Need-add-n Inv-loop μ-loop
-add-n c = let f = c .before .before .before .before in omega (arith, sums f .1, text-fits (head f))
-
-stops-requires : tie.Need-stops-requires Inv-loop μ-loop
-stops-requires c κs = search needs
 
 stopped-requires : tie.Need-stopped-requires Inv-loop μ-loop
 stopped-requires c κs = search needs
 
-returns : tie.Need-returns Inv-loop μ-loop
-returns c =
-    let f = c .before .before .before .before .before .before .before in
-    let h = head f in
-    c .stopped .ensures ∙ counting-stops (known h) (h .loop .inv .1 .count) (part f) refl (fits f) (f .fill .ensures .0) (sym (c .before .before .stops .ensures) ∙ c .before .if1 .taken) .is
+loop-holds : tie.Need-loop-holds Inv-loop μ-loop
+loop-holds c =
+    let s = c .before .before in
+    let e = c .stopped .ensures in
+    subst (λ (k : Core). Counted (s .args .alphabet) (s .args .options) (s .args .text .now) k (c .stopped .result)) (sym (ap (λ (z : Ran). z .core) e))
+    (counted-begins e (s .pre .1 .1))
+
+goes-on-requires : tie.Need-goes-on-requires Inv-loop μ-loop
+goes-on-requires c κs = search needs
+
+part-end-requires : tie.Need-part-end-requires Inv-loop μ-loop
+part-end-requires c κs = going c .1
+
+sub-counted : tie.Need-sub-counted Inv-loop μ-loop
+sub-counted c = omega (arith, c .part-end .ensures .begins)
+
+part-counted-start : tie.Need-part-counted-start Inv-loop μ-loop
+part-counted-start c = omega (arith, c .part-end .ensures .begins)
+
+part-counted-end : tie.Need-part-counted-end Inv-loop μ-loop
+part-counted-end c = omega (arith, c .part-end .ensures .within)
+
+counted-requires : tie.Need-counted-requires Inv-loop μ-loop
+counted-requires c κs =
+    let e = c .before in
+    let s = start (head e) in
+    (s .pre .0, (s .pre .1 .0, part-ready (counting e) (e .part-end .ensures) (s .pre .1 .1)))
+
+then-requires : tie.Need-then-requires Inv-loop μ-loop
+then-requires c κs =
+    let h = head (end c) in
+    let n = counted-sums (known h) (next c) in
+    (omega (arith, n .0, start h .pre .1 .1 .within, limit-small), omega (arith, n .1, start h .pre .1 .1 .within, limit-small))
 
 loop-less : tie.Need-loop-less Inv-loop μ-loop
 loop-less c =
-    let f = c .before .before .before .before .before .before in
-    let h = head f in
-    omega (arith, part f .begins, h .loop .inv .1 .count .loop .within, part f .within, counting-took (known h) (h .loop .inv .1 .count) (part f) refl (fits f) (f .fill .ensures .0) (sym (c .before .stops .ensures) ∙ c .if1 .left))
+    let y = c .before in
+    let e = end y in
+    let h = head e in
+    let g = going (e .before) in
+    left-less (h .loop .s) (y .counted .result) (length (start h .args .text .now)) (g .0) (g .1) (c .then .ensures)
+    (counted-some (h .loop .s) (known h) (counting e) (e .part-end .ensures) refl (fits y) (y .counted .ensures))
 
 loop-again : tie.Need-loop-again Inv-loop μ-loop
 loop-again c =
-    let f = c .before .before .before .before .before .before in
-    let h = head f in
-    (f .fill .kept .1 .1 .1 .1 .1 .0 ∙ h .loop .inv .0, tallying-goes (known h) (h .loop .inv .1 .count) (part f) refl (fits f) (f .fill .ensures .0) (sym (c .before .stops .ensures) ∙ c .if1 .left))
+    let y = c .before in
+    let h = head (end y) in
+    let s = start h in
+    let same : Core → Ran → Type 0 = λ k r. Counted (s .args .alphabet) (s .args .options) (s .args .text .now) k r in
+    subst (λ (k : Core). same k (c .then .result)) (sym (began h)) (subst (same (s .args .start)) (sym (c .then .ensures)) (next y))
 
-stopped-requires-2 : tie.Need-stopped-requires-2 Inv-loop μ-loop
-stopped-requires-2 c κs = search needs
-
-returns-2 : tie.Need-returns-2 Inv-loop μ-loop
-returns-2 c =
-    let h = c .before .before in
-    c .stopped2 .ensures ∙ loop-all (known h) (h .loop .inv .1 .count .loop) (c .before .loop-test .left) .is
+returns : tie.Need-returns Inv-loop μ-loop
+returns c = let h = c .before .before in counted-done (known h) (so-far h) (sym (c .before .goes-on .ensures) ∙ c .if1 .left) .0
 
 pub tally-spec : {M : Type 1} → statement M
 tally-spec =
@@ -117,19 +125,15 @@ tally-spec =
     (tie.spec
     Inv-loop
     μ-loop
-    loop-holds
-    part-end-requires
-    sub-fill
-    part-fill-start
-    part-fill-end
-    slice-aggregate-fill
-    fill-requires
-    add-i
-    add-n
-    stops-requires
     stopped-requires
-    returns
+    loop-holds
+    goes-on-requires
+    part-end-requires
+    sub-counted
+    part-counted-start
+    part-counted-end
+    counted-requires
+    then-requires
     loop-less
     loop-again
-    stopped-requires-2
-    returns-2)
+    returns)
