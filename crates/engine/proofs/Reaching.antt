@@ -2,25 +2,29 @@
 use Prim.Native.Nat.{ℕ, suc, _+_, _-_, _<_, _≤_}
 use mathlib.Core.Path.{_≡_, refl, sym, ap, _∙_, subst}
 use mathlib.Core.Logic.{_⊎_, inl, inr}
-use mathlib.Core.Bool.{true, false}
+use mathlib.Core.Bool.{Bool, true, false}
 use mathlib.Core.List.{List, [], _++_}
 use native.Mathlib.Omega.{arith}
-use lib.Dec.{T}
-use lib.ListN.{length, take, drop, length-append, length-drop}
+use lib.Dec.{T, ltb}
+use lib.ListN.{length, take, drop, getD, length-append, length-drop}
 use borrow.Author.Tests.{ltb-true, ltb-false}
 use Rattle.reading.specs.Buffer.{filled}
+use Rattle.reading.specs.Reader.{gives, step}
 use Rattle.reading.specs.Piece as P
 use Rattle.reading.specs.Piece.{after, run}
 use Rattle.reading.proofs.PieceLaws.{run-feeds}
 use Rattle.engine.specs.declared.rule.Core.{Core}
 use Rattle.engine.specs.declared.rule.Cause.{Cause}
+use Rattle.engine.specs.declared.rule.Took.{Took}
+use Rattle.engine.specs.declared.rule.Took.the-variants.{Takes, Gives, Refuses}
+use Rattle.engine.specs.declared.digits.Passed.{Passed}
 use Rattle.engine.specs.declared.piece.Why.{Why}
 use Rattle.engine.specs.declared.piece.Why.the-variants as W
 use Rattle.engine.specs.declared.piece.Ran.{Ran}
-use Rattle.engine.specs.Meaning.{stateOf}
+use Rattle.engine.specs.Meaning.{stateOf, stepOf}
 use Rattle.engine.specs.Ran.{coreOf, whyAs, goesOn, thenAs, ranAs, Ready}
-use Rattle.engine.specs.Loop.{Filling, Reached, Stretch}
-use Rattle.engine.proofs.Loops.{Done, filling-begins, filling-lent, same-size, loop-all, rest-all, stored-lent}
+use Rattle.engine.specs.Loop.{Filling, Reached, Stretch, putAs, putIn}
+use Rattle.engine.proofs.Loops.{filling-begins, filling-lent, filling-takes, filling-gives, filling-done, same-size, loop-full, loop-refused, loop-all, rest-all, stored-lent}
 
 -- ---- whether it goes on
 
@@ -102,6 +106,37 @@ module _ {a opts : ℕ} {k : Core} {piece out₀ out : List ℕ} where
   stretch-stops {q} {r} e n d =
       let not : q .why ≡ W.All → ⊥ = λ x. n (ap (λ (z : Ran). z .why) (sym e) ∙ x) in
       record { reached = record { goes = λ x. absurd (not x); is = λ x. d .0; bytes = λ x. d .1 }; some = λ x. absurd (not x) }
+
+-- a byte after digits
+pub stretch-put : {a opts : ℕ} {k : Core} {piece out₀ out : List ℕ} {p : Passed} {r : Ran} {room : ℕ} {out' : List ℕ} (byte : Took) → a < 6
+    → Filling a opts piece k out₀ out (p .core) (p .took) (p .wrote) → p .took < length piece
+    → stepOf byte ≡ step a opts (stateOf (p .core)) (getD piece (p .took) 0) → room ≡ length out → r ≡ putAs p byte room → out' ≡ putIn p byte out
+    → Stretch a opts k piece out₀ out' r
+unfolding putAs putIn
+stretch-put {a} {opts} {k} {piece} {out₀} {out} {p} {r} {room} {out'} byte h f l e z is o =
+    subst (λ (x : List ℕ). Stretch a opts k piece out₀ x r) (sym o) (go byte e is)
+  where
+    size : room ≡ length out₀
+    size = z ∙ same-size h f
+
+    full : Ran
+    full = record { core = p .core; why = W.Full; took = p .took; wrote = p .wrote }
+
+    -- a byte given, where there is room and where there is none
+    room-or-not : (x : ℕ) (c : Core) → gives x (stateOf c) ≡ step a opts (stateOf (p .core)) (getD piece (p .took) 0) → r ≡ putAs p (Gives x c) room
+        → (t : Bool) → ltb (p .wrote) room ≡ t → Stretch a opts k piece out₀ (putIn p (Gives x c) out) r
+    room-or-not x c e is true q =
+        rw (← z, q)
+        (stretch-goes (is ∙ rw q) (filling-gives h f {t = Gives x c} l e refl (omega (arith, ltb-true (p .wrote) room q, size))) (λ n. omega arith))
+    room-or-not x c e is false q =
+        rw (← z, q)
+        (stretch-stops {r = full} (is ∙ rw q) full-not-all
+        (filling-done h f {r = full} (is ∙ rw q) (loop-full h (f .loop) {t = Gives x c} l e refl (omega (arith, ltb-false (p .wrote) room q, size, f .loop .fits)))))
+
+    go : (b : Took) → stepOf b ≡ step a opts (stateOf (p .core)) (getD piece (p .took) 0) → r ≡ putAs p b room → Stretch a opts k piece out₀ (putIn p b out) r
+    go (Takes c) e is = stretch-goes is (filling-takes h f {t = Takes c} l e refl) (λ n. omega arith)
+    go (Gives x c) e is = room-or-not x c e is (ltb (p .wrote) room) refl
+    go (Refuses c) e is = stretch-stops is refused-not-all (filling-done h f is (loop-refused h (f .loop) {t = Refuses c} l e refl))
 
 module _ {a opts : ℕ} {start : Core} {piece out₀ out : List ℕ} {s : Ran} (h : a < 6) (f : Reached a opts start piece out₀ out s) where
   pub reached-size : length out ≡ length out₀

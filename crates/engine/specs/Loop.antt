@@ -1,14 +1,17 @@
 -- What holds where a part of a run is done, for the contracts of the loops over a piece. Assumes nothing.
 use Prim.Native.Nat.{ℕ, _+_, _-_, _%_, _<_, _≤_, _^_}
 use mathlib.Core.Path.{_≡_}
-use mathlib.Core.Bool.{true}
+use mathlib.Core.Bool.{true, cond}
 use mathlib.Core.List.{List, _++_}
-use lib.ListN.{length, drop}
+use lib.Dec.{ltb}
+use lib.ListN.{length, drop, set}
 use Rattle.reading.specs.Options.{allowed}
 use Rattle.reading.specs.Sound.{Sound}
 use Rattle.reading.specs.Buffer.{filled}
 use Rattle.reading.specs.Piece.{after, run}
 use Rattle.engine.specs.declared.rule.Core.{Core}
+use Rattle.engine.specs.declared.rule.Took.{Took}
+use Rattle.engine.specs.declared.rule.Took.the-variants as T
 use Rattle.engine.specs.declared.digits.Passed.{Passed}
 use Rattle.engine.specs.declared.piece.Why.the-variants as W
 use Rattle.engine.specs.declared.piece.Ran.{Ran}
@@ -57,3 +60,18 @@ pub record Part (i e len : ℕ) : Type 0 where
   pub begins : i < e
   pub within : e ≤ len
   pub small : e ≤ i + 256
+
+-- what a byte does after digits, in so much room
+unfoldable pub putAs : Passed → Took → ℕ → Ran
+putAs p (T.Takes c) room = record { core = c; why = W.All; took = p .took + 1; wrote = p .wrote }
+putAs p (T.Gives x c) room =
+    cond (ltb (p .wrote) room)
+    (record { core = c; why = W.All; took = p .took + 1; wrote = p .wrote + 1 })
+    (record { core = p .core; why = W.Full; took = p .took; wrote = p .wrote })
+putAs p (T.Refuses e) room = record { core = p .core; why = W.Refused e; took = p .took; wrote = p .wrote }
+
+-- and the buffer then
+unfoldable pub putIn : Passed → Took → List ℕ → List ℕ
+putIn p (T.Takes c) out = out
+putIn p (T.Gives x c) out = cond (ltb (p .wrote) (length out)) (set out (p .wrote) x) out
+putIn p (T.Refuses e) out = out

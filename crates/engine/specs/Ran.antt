@@ -1,6 +1,6 @@
 -- What a run over a piece gives, in the engine's types: the definitions of `reading` (Piece) with the answer's shape, and the buffer.
 -- Assumes nothing.
-use Prim.Native.Nat.{ℕ, _+_, _*_, _%_, _≤_, _^_}
+use Prim.Native.Nat.{ℕ, _+_, _-_, _*_, _%_, _≤_, _^_}
 use mathlib.Core.Bool.{Bool, false, cond, _&&_}
 use mathlib.Core.List.{List, [], _∷_, _++_}
 use lib.Dec.{leb, ltb}
@@ -27,12 +27,6 @@ coreOf s = record { digits = s .digits; held = s .held; pads = s .pads; taken = 
 unfoldable pub causeOf : ℕ → Cause
 causeOf k = getD (C.TooLong ∷ C.TooLong ∷ C.TooLong ∷ C.TooLong ∷ C.Foreign ∷ C.PadPlace ∷ C.Spare ∷ C.AfterPad ∷ C.Short ∷ []) k C.TooLong
 
-unfoldable pub whyAtLimit : Why → Why
-whyAtLimit W.All = W.Refused C.TooLong
-whyAtLimit (W.Refused c) = W.Refused c
-whyAtLimit W.Full = W.Full
-whyAtLimit W.Unfit = W.Unfit
-
 unfoldable pub whyAs : P.Why → Why
 whyAs P.all = W.All
 whyAs (P.refused k) = W.Refused (causeOf k)
@@ -52,9 +46,14 @@ thenAs q r = record { core = r .core; why = r .why; took = q .took + r .took; wr
 abbrev pub ranAs : P.Ran → Ran
 ranAs r = record { core = coreOf (r .state); why = whyAs (r .why); took = r .took; wrote = length (r .wrote) }
 
+-- how many of so many bytes lie below the limit
+unfoldable pub below : ℕ → ℕ → ℕ
+below taken len = cond (ltb (limit - taken) len) (limit - taken) len
+
 -- (a): all of what lies below the limit was taken, and a byte lies at it
-abbrev pub atLimit : Ran → Ran
-atLimit r = record { core = r .core; why = whyAtLimit (r .why); took = r .took; wrote = r .wrote }
+unfoldable pub limited : Ran → ℕ → Ran
+limited r len =
+    cond (goesOn (r .why) (r .took) len) (record { core = r .core; why = W.Refused C.TooLong; took = r .took; wrote = r .wrote }) r
 
 -- a state that text gives, and m bytes more are within the limit
 pub record Ready (a : ℕ) (k : Core) (m : ℕ) : Type 0 where

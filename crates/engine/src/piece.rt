@@ -1,6 +1,7 @@
 // The loops over a piece: into a second buffer, in place, and counting alone. Each takes the table once, and asks `on_digit` for a byte that
 // is a digit as it stands and `rare` for any other, so that the common byte costs no call.
 use crate::choice::allowed;
+use crate::digits::Passed;
 use crate::digits::pass;
 use crate::rule::Cause;
 use crate::rule::Core;
@@ -19,7 +20,7 @@ ghost use Rattle.engine.specs.Meaning.{stateOf};
 ghost use Rattle.engine.specs.Ran as Spec;
 ghost use Rattle.reading.specs.Buffer.{filled};
 ghost use Rattle.engine.specs.Ran.{Ready, ranAs};
-ghost use Rattle.engine.specs.Loop.{Part, Stretch};
+ghost use Rattle.engine.specs.Loop.{Part, Stretch, putAs, putIn};
 
 // Why a run over a piece stopped. Unfit: the choice or the state is none that reading starts from, and nothing was done.
 pub enum Why {
@@ -85,6 +86,29 @@ fn goes_on(r: Ran, len: usize) -> bool
     }
 }
 
+// What a byte does after digits, with the room for a byte that it gives.
+fn put(p: Passed, byte: Took, out: &mut [u8]) -> Ran
+    requires { ⌜ p .took + 1 < 2 ^ 64 ⌝ }
+    requires { ⌜ p .wrote ≤ length (now out) ⌝ }
+    ensures { λ r. ⌜ r ≡ putAs p byte (length (now (out .entry))) ⌝ }
+    ensures { λ r. ⌜ now (out .exit) ≡ putIn p byte (now (out .entry)) ⌝ }
+{
+    let k = p.core;
+    let i = p.took;
+    let n = p.wrote;
+    match byte {
+        Took::Takes(c) => stopped(c, Why::All, i + 1, n),
+        Took::Gives(x, c) => {
+            if n < out.len() {
+                out[n] = x; // n is below the room
+                return stopped(c, Why::All, i + 1, n + 1);
+            }
+            stopped(k, Why::Full, i, n)
+        }
+        Took::Refuses(e) => stopped(k, Why::Refused(e), i, n),
+    }
+}
+
 // Digits as they stand, and the byte after them, which `rare` tells of.
 fn stretch(
     t: &[u8; 1536],
@@ -100,23 +124,12 @@ fn stretch(
     ensures { λ r. ⌜ Stretch alphabet options start (now (piece .entry)) (now (out .entry)) (now (out .exit)) r ⌝ }
 {
     let p = pass(t, alphabet, start, piece, out);
-    let k = p.core;
     let i = p.took;
-    let n = p.wrote;
     if piece.len() <= i {
-        return stopped(k, Why::All, i, n);
+        return stopped(p.core, Why::All, i, p.wrote);
     }
-    match rare(t, alphabet, options, k, piece[i]) {
-        Took::Takes(c) => stopped(c, Why::All, i + 1, n),
-        Took::Gives(x, c) => {
-            if n == out.len() {
-                return stopped(k, Why::Full, i, n);
-            }
-            out[n] = x; // n is below the room
-            stopped(c, Why::All, i + 1, n + 1)
-        }
-        Took::Refuses(e) => stopped(k, Why::Refused(e), i, n),
-    }
+    let byte = rare(t, alphabet, options, p.core, piece[i]);
+    put(p, byte, out)
 }
 
 fn fill(
@@ -249,40 +262,26 @@ pub fn ready(alphabet: usize, options: usize, k: Core) -> bool
     false
 }
 
-// (a): the byte at the limit is refused, where all before it was taken.
-fn at_limit(r: Ran) -> Ran
-    ensures { λ x. ⌜ x ≡ Spec.atLimit r ⌝ }
+// How many of so many bytes lie below the limit.
+fn below_limit(taken: usize, len: usize) -> usize
+    requires { ⌜ taken ≤ Limit.limit ⌝ }
+    ensures { λ m. ⌜ m ≡ Spec.below taken len ⌝ }
 {
-    let core = r.core;
-    let why = r.why;
-    let took = r.took;
-    let wrote = r.wrote;
-    match why {
-        Why::All => Ran {
-            core,
-            why: Why::Refused(Cause::TooLong),
-            took,
-            wrote,
-        },
-        Why::Refused(cause) => Ran {
-            core,
-            why: Why::Refused(cause),
-            took,
-            wrote,
-        },
-        Why::Full => Ran {
-            core,
-            why: Why::Full,
-            took,
-            wrote,
-        },
-        Why::Unfit => Ran {
-            core,
-            why: Why::Unfit,
-            took,
-            wrote,
-        },
+    let left = limit() - taken;
+    if left < len {
+        return left;
     }
+    len
+}
+
+// (a): the byte at the limit is refused, where all before it was taken and the piece goes on.
+fn at_limit(r: Ran, len: usize) -> Ran
+    ensures { λ x. ⌜ x ≡ Spec.limited r len ⌝ }
+{
+    if goes_on(r, len) {
+        return stopped(r.core, Why::Refused(Cause::TooLong), r.took, r.wrote);
+    }
+    r
 }
 
 fn unfit(core: Core) -> Ran
@@ -303,14 +302,9 @@ pub fn run(alphabet: usize, options: usize, start: Core, piece: &[u8], out: &mut
 {
     if ready(alphabet, options, start) {
         let t = alphabet::table::table();
-        let taken = start.taken;
-        let left = limit() - taken;
-        if left < piece.len() {
-            let front = &piece[..left];
-            let r = fill(&t, alphabet, options, start, front, out);
-            return at_limit(r);
-        }
-        return fill(&t, alphabet, options, start, piece, out);
+        let m = below_limit(start.taken, piece.len());
+        let r = fill(&t, alphabet, options, start, &piece[..m], out);
+        return at_limit(r, piece.len());
     }
     unfit(start)
 }
@@ -322,13 +316,9 @@ pub fn count(alphabet: usize, options: usize, text: &[u8]) -> Ran
     let start = fresh();
     if allowed(alphabet, options) {
         let t = alphabet::table::table();
-        let most = limit();
-        if most < text.len() {
-            let front = &text[..most];
-            let r = tally(&t, alphabet, options, start, front);
-            return at_limit(r);
-        }
-        return tally(&t, alphabet, options, start, text);
+        let m = below_limit(0, text.len());
+        let r = tally(&t, alphabet, options, start, &text[..m]);
+        return at_limit(r, text.len());
     }
     unfit(start)
 }
@@ -341,12 +331,10 @@ pub fn in_place(alphabet: usize, options: usize, buf: &mut [u8]) -> Ran
     let start = fresh();
     if allowed(alphabet, options) {
         let t = alphabet::table::table();
-        let most = limit();
-        if most < buf.len() {
-            let r = settle(&t, alphabet, options, start, &mut buf[..most]);
-            return at_limit(r);
-        }
-        return settle(&t, alphabet, options, start, buf);
+        let len = buf.len();
+        let m = below_limit(0, len);
+        let r = settle(&t, alphabet, options, start, &mut buf[..m]);
+        return at_limit(r, len);
     }
     unfit(start)
 }
