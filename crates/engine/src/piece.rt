@@ -50,17 +50,6 @@ pub fn fresh() -> Core
     }
 }
 
-fn stopped(core: Core, why: Why, took: usize, wrote: usize) -> Ran
-    ensures { λ r. ⌜ r ≡ record { core = core; why = why; took = took; wrote = wrote } ⌝ }
-{
-    Ran {
-        core,
-        why,
-        took,
-        wrote,
-    }
-}
-
 // A run, and one more after it: the counts are added.
 fn then(first: Ran, next: Ran) -> Ran
     requires { ⌜ first .took + next .took < 2 ^ 64 ⌝ }
@@ -69,7 +58,12 @@ fn then(first: Ran, next: Ran) -> Ran
 {
     let core = next.core;
     let why = next.why;
-    stopped(core, why, first.took + next.took, first.wrote + next.wrote)
+    Ran {
+        core,
+        why,
+        took: first.took + next.took,
+        wrote: first.wrote + next.wrote,
+    }
 }
 
 // Whether a run that came so far has bytes left to take.
@@ -97,15 +91,35 @@ fn put(p: Passed, byte: Took, out: &mut [u8]) -> Ran
     let i = p.took;
     let n = p.wrote;
     match byte {
-        Took::Takes(c) => stopped(c, Why::All, i + 1, n),
+        Took::Takes(c) => Ran {
+            core: c,
+            why: Why::All,
+            took: i + 1,
+            wrote: n,
+        },
         Took::Gives(x, c) => {
             if n < out.len() {
                 out[n] = x; // n is below the room
-                return stopped(c, Why::All, i + 1, n + 1);
+                return Ran {
+                    core: c,
+                    why: Why::All,
+                    took: i + 1,
+                    wrote: n + 1,
+                };
             }
-            stopped(k, Why::Full, i, n)
+            Ran {
+                core: k,
+                why: Why::Full,
+                took: i,
+                wrote: n,
+            }
         }
-        Took::Refuses(e) => stopped(k, Why::Refused(e), i, n),
+        Took::Refuses(e) => Ran {
+            core: k,
+            why: Why::Refused(e),
+            took: i,
+            wrote: n,
+        },
     }
 }
 
@@ -124,11 +138,17 @@ fn stretch(
     ensures { λ r. ⌜ Stretch alphabet options start (now (piece .entry)) (now (out .entry)) (now (out .exit)) r ⌝ }
 {
     let p = pass(t, alphabet, start, piece, out);
+    let k = p.core;
     let i = p.took;
     if piece.len() <= i {
-        return stopped(p.core, Why::All, i, p.wrote);
+        return Ran {
+            core: k,
+            why: Why::All,
+            took: i,
+            wrote: p.wrote,
+        };
     }
-    let byte = rare(t, alphabet, options, p.core, piece[i]);
+    let byte = rare(t, alphabet, options, k, piece[i]);
     put(p, byte, out)
 }
 
@@ -146,7 +166,12 @@ fn fill(
     ensures { λ r. ⌜ r ≡ ranAs (Piece.run alphabet options (now (piece .entry)) (stateOf start) (length (now (out .entry)))) ⌝ }
     ensures { λ r. ⌜ now (out .exit) ≡ filled (Piece.run alphabet options (now (piece .entry)) (stateOf start) (length (now (out .entry))) .wrote) (now (out .entry)) ⌝ }
 {
-    let mut s = stopped(start, Why::All, 0, 0);
+    let mut s = Ran {
+        core: start,
+        why: Why::All,
+        took: 0,
+        wrote: 0,
+    };
     while goes_on(s, piece.len()) {
         let i = s.took;
         let n = s.wrote;
@@ -185,7 +210,12 @@ fn tally(t: &[u8; 1536], alphabet: usize, options: usize, start: Core, text: &[u
     requires { ⌜ Ready alphabet start (length (now text)) ⌝ }
     ensures { λ r. ⌜ r ≡ ranAs (Piece.run alphabet options (now (text .entry)) (stateOf start) (length (now (text .entry)))) ⌝ }
 {
-    let mut s = stopped(start, Why::All, 0, 0);
+    let mut s = Ran {
+        core: start,
+        why: Why::All,
+        took: 0,
+        wrote: 0,
+    };
     while goes_on(s, text.len()) {
         let i = s.took;
         let e = part_end(i, text.len());
@@ -217,7 +247,12 @@ fn settle(t: &[u8; 1536], alphabet: usize, options: usize, start: Core, buf: &mu
     ensures { λ r. ⌜ r ≡ ranAs (Piece.run alphabet options (now (buf .entry)) (stateOf start) (length (now (buf .entry)))) ⌝ }
     ensures { λ r. ⌜ now (buf .exit) ≡ filled (Piece.run alphabet options (now (buf .entry)) (stateOf start) (length (now (buf .entry))) .wrote) (now (buf .entry)) ⌝ }
 {
-    let mut s = stopped(start, Why::All, 0, 0);
+    let mut s = Ran {
+        core: start,
+        why: Why::All,
+        took: 0,
+        wrote: 0,
+    };
     while goes_on(s, buf.len()) {
         let i = s.took;
         let n = s.wrote;
@@ -279,7 +314,13 @@ fn at_limit(r: Ran, len: usize) -> Ran
     ensures { λ x. ⌜ x ≡ Spec.limited r len ⌝ }
 {
     if goes_on(r, len) {
-        return stopped(r.core, Why::Refused(Cause::TooLong), r.took, r.wrote);
+        let core = r.core;
+        return Ran {
+            core,
+            why: Why::Refused(Cause::TooLong),
+            took: r.took,
+            wrote: r.wrote,
+        };
     }
     r
 }

@@ -7,17 +7,13 @@ use lib.ListN.{length, take, drop}
 use borrow.Author.Needs.{needs}
 use Rattle.reading.proofs.LimitLaws.{limit-small}
 use Rattle.reading.proofs.OptionLaws.{allowed-alphabet}
-use Rattle.engine.specs.declared.rule.Core.{Core}
 use Rattle.engine.specs.declared.piece.Why.the-variants as W
-use Rattle.engine.specs.declared.piece.Ran.{Ran}
 use Rattle.engine.specs.Ran.{thenAs}
 use Rattle.engine.specs.Loop.{Filling, Reached}
 use Rattle.engine.proofs.Loops.{rest-some, filling-ready}
 use Rattle.engine.proofs.Reaching.{goes-on, left, left-less, reached-begins, reached-size, reached-sums, reached-then, reached-done}
 use Rattle.engine.proofs.piece.fill.Statement.{statement}
 use Rattle.engine.proofs.piece.fill.Tie as tie
-use Rattle.engine.proofs.piece.fill.Reads as reads
-use Rattle.engine.proofs.piece.fill.Lts as lts
 
 abbrev Inv-loop : tie.InvT-loop
 Inv-loop t alphabet options piece out₀ s₀ out s = Reached alphabet options (s₀ .core) piece out₀ out s
@@ -28,19 +24,14 @@ abbrev μ-loop : tie.MeasureT-loop
 -- ---- what is known in a turn
 
 abbrev start : tie.At-loop Inv-loop μ-loop → tie.Start Inv-loop μ-loop
-start h = h .before .before .before .before
+start h = h .before .before .before
 
 known : (h : tie.At-loop Inv-loop μ-loop) → start h .args .alphabet < 6
 known h = allowed-alphabet _ _ (start h .pre .1 .0)
 
-began : (h : tie.At-loop Inv-loop μ-loop) → h .before .stopped .result .core ≡ start h .args .start
-began h = ap (λ (z : Ran). z .core) (h .before .stopped .ensures)
-
 so-far : (h : tie.At-loop Inv-loop μ-loop)
     → let s = start h in Reached (s .args .alphabet) (s .args .options) (s .args .start) (s .args .piece .now) (s .args .out .now) (h .loop .out) (h .loop .s)
-so-far h =
-    let s = start h in
-    subst (λ (k : Core). Reached (s .args .alphabet) (s .args .options) k (s .args .piece .now) (s .args .out .now) (h .loop .out) (h .loop .s)) (began h) (h .loop .inv)
+so-far h = h .loop .inv
 
 abbrev head : tie.Then1 Inv-loop μ-loop → tie.At-loop Inv-loop μ-loop
 head c = c .before .before
@@ -67,15 +58,8 @@ next y = let h = head (test y) in reached-then (known h) (so-far h) (going (test
 
 -- ---- the needs
 
-stopped-requires : tie.Need-stopped-requires Inv-loop μ-loop
-stopped-requires c κs = search needs
-
 loop-holds : tie.Need-loop-holds Inv-loop μ-loop
-loop-holds c =
-    let s = c .before .before .before in
-    let e = c .stopped .ensures in
-    subst (λ (k : Core). Reached (s .args .alphabet) (s .args .options) k (s .args .piece .now) (s .args .out .now) (s .args .out .now) (c .stopped .result))
-    (sym (ap (λ (z : Ran). z .core) e)) (reached-begins e (s .pre .1 .1) refl)
+loop-holds c = reached-begins refl (c .before .before .pre .1 .1) refl
 
 goes-on-requires : tie.Need-goes-on-requires Inv-loop μ-loop
 goes-on-requires c κs = search needs
@@ -124,10 +108,8 @@ loop-less c =
 loop-again : tie.Need-loop-again Inv-loop μ-loop
 loop-again c =
     let y = c .before .before .before in
-    let h = head (test y) in
-    let s = start h in
-    let same : Core → Ran → Type 0 = λ k r. Reached (s .args .alphabet) (s .args .options) k (s .args .piece .now) (s .args .out .now) (out y) r in
-    subst (λ (k : Core). same k (c .then .result)) (sym (began h)) (subst (same (s .args .start)) (sym (c .then .ensures)) (next y))
+    let s = start (head (test y)) in
+    subst (Reached (s .args .alphabet) (s .args .options) (s .args .start) (s .args .piece .now) (s .args .out .now) (out y)) (sym (c .then .ensures)) (next y)
 
 same-length : tie.Need-same-length Inv-loop μ-loop
 same-length c = let h = c .before .before in reached-size (known h) (so-far h)
@@ -141,7 +123,6 @@ fill-spec =
     (tie.spec
     Inv-loop
     μ-loop
-    stopped-requires
     loop-holds
     goes-on-requires
     sub-stretch

@@ -5,9 +5,7 @@ use native.Mathlib.Omega.{arith}
 use borrow.Author.Needs.{needs}
 use Rattle.reading.proofs.LimitLaws.{limit-small}
 use Rattle.reading.proofs.OptionLaws.{allowed-alphabet}
-use Rattle.engine.specs.declared.rule.Core.{Core}
 use Rattle.engine.specs.declared.piece.Why.the-variants as W
-use Rattle.engine.specs.declared.piece.Ran.{Ran}
 use mathlib.Core.List.{List, _++_}
 use lib.ListN.{length, take, drop, length-take}
 use Rattle.engine.specs.Ran.{goesOn, thenAs, Ready}
@@ -26,19 +24,14 @@ abbrev μ-loop : tie.MeasureT-loop
 -- ---- what is known in a turn
 
 abbrev start : tie.At-loop Inv-loop μ-loop → tie.Start Inv-loop μ-loop
-start h = h .before .before .before
+start h = h .before .before
 
 known : (h : tie.At-loop Inv-loop μ-loop) → start h .args .alphabet < 6
 known h = allowed-alphabet _ _ (start h .pre .1 .0)
 
-began : (h : tie.At-loop Inv-loop μ-loop) → h .before .stopped .result .core ≡ start h .args .start
-began h = ap (λ (z : Ran). z .core) (h .before .stopped .ensures)
-
 so-far : (h : tie.At-loop Inv-loop μ-loop)
     → let s = start h in Settled (s .args .alphabet) (s .args .options) (s .args .buf .now) (s .args .start) (h .loop .buf) (h .loop .s)
-so-far h =
-    let s = start h in
-    subst (λ (k : Core). Settled (s .args .alphabet) (s .args .options) (s .args .buf .now) k (h .loop .buf) (h .loop .s)) (began h) (h .loop .inv)
+so-far h = h .loop .inv
 
 size : (h : tie.At-loop Inv-loop μ-loop) → length (h .loop .buf) ≡ length (start h .args .buf .now)
 size h = settled-size (known h) (so-far h)
@@ -88,15 +81,8 @@ next f =
 
 -- ---- the needs
 
-stopped-requires : tie.Need-stopped-requires Inv-loop μ-loop
-stopped-requires c κs = search needs
-
 loop-holds : tie.Need-loop-holds Inv-loop μ-loop
-loop-holds c =
-    let s = c .before .before in
-    let e = c .stopped .ensures in
-    subst (λ (k : Core). Settled (s .args .alphabet) (s .args .options) (s .args .buf .now) k (s .args .buf .now) (c .stopped .result))
-    (sym (ap (λ (z : Ran). z .core) e)) (settled-begins e (s .pre .1 .1))
+loop-holds c = settled-begins refl (c .before .pre .1 .1)
 
 goes-on-requires : tie.Need-goes-on-requires Inv-loop μ-loop
 goes-on-requires c κs = search needs
@@ -162,10 +148,8 @@ loop-less c =
 loop-again : tie.Need-loop-again Inv-loop μ-loop
 loop-again c =
     let f = c .before .before .before in
-    let h = head (from f) in
-    let s = start h in
-    let same : Core → Ran → Type 0 = λ k r. Settled (s .args .alphabet) (s .args .options) (s .args .buf .now) k (buf f) r in
-    subst (λ (k : Core). same k (c .then .result)) (sym (began h)) (subst (same (s .args .start)) (sym (c .then .ensures)) (next f))
+    let s = start (head (from f)) in
+    subst (Settled (s .args .alphabet) (s .args .options) (s .args .buf .now) (s .args .start) (buf f)) (sym (c .then .ensures)) (next f)
 
 same-length : tie.Need-same-length Inv-loop μ-loop
 same-length c = size (c .before .before)
@@ -181,7 +165,6 @@ settle-spec =
     (tie.spec
     Inv-loop
     μ-loop
-    stopped-requires
     loop-holds
     goes-on-requires
     part-end-requires

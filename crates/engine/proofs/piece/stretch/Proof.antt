@@ -24,28 +24,25 @@ passed : (p : tie.After-pass)
 passed p = p .pass .ensures .fills (start p .args .options) (start p .pre .1 .0)
 
 abbrev digits : tie.After-rare → tie.After-pass
-digits r = r .before .before .before .before .before
+digits r = r .before .before .before .before .before .before
 
 -- ---- the needs
 
 pass-requires : tie.Need-pass-requires
 pass-requires c κs = let s = c .before .before .before in (s .pre .0, (allowed-alphabet _ _ (s .pre .1 .0), s .pre .1 .1))
 
-stopped-requires : tie.Need-stopped-requires
-stopped-requires c κs = search needs
-
 same-length : tie.Need-same-length
 same-length c = let p = c .before .before .before .before in same-size (known p) (passed p)
 
 returns : tie.Need-returns
-returns c = stretch-goes (c .stopped .ensures) (passed (c .before .before .before .before)) (λ l. omega (arith, c .before .if1 .taken))
+returns c = stretch-goes refl (passed (c .before .before .before .before)) (λ l. omega (arith, c .if1 .taken))
 
 shared-slice-read-rare : tie.Need-shared-slice-read-rare
 shared-slice-read-rare c = search needs
 
 rare-requires : tie.Need-rare-requires
 rare-requires c κs =
-    let p = c .before .before .before .before in
+    let p = c .before .before .before .before .before in
     (start p .pre .0, (known p, fit (known p) (passed p .loop) (start p .pre .1 .1) (c .before .if1 .left)))
 
 put-requires : tie.Need-put-requires
@@ -69,7 +66,6 @@ stretch-spec =
     tie.close
     (tie.spec
     pass-requires
-    stopped-requires
     same-length
     returns
     shared-slice-read-rare

@@ -5,9 +5,7 @@ use native.Mathlib.Omega.{arith}
 use borrow.Author.Needs.{needs}
 use Rattle.reading.proofs.LimitLaws.{limit-small}
 use Rattle.reading.proofs.OptionLaws.{allowed-alphabet}
-use Rattle.engine.specs.declared.rule.Core.{Core}
 use Rattle.engine.specs.declared.piece.Why.the-variants as W
-use Rattle.engine.specs.declared.piece.Ran.{Ran}
 use lib.ListN.{length, take, drop}
 use Rattle.engine.specs.Ran.{thenAs}
 use Rattle.engine.proofs.Reaching.{goes-on, left, left-less}
@@ -24,17 +22,13 @@ abbrev μ-loop : tie.MeasureT-loop
 -- ---- what is known in a turn
 
 abbrev start : tie.At-loop Inv-loop μ-loop → tie.Start Inv-loop μ-loop
-start h = h .before .before .before
+start h = h .before .before
 
 known : (h : tie.At-loop Inv-loop μ-loop) → start h .args .alphabet < 6
 known h = allowed-alphabet _ _ (start h .pre .1 .0)
 
-began : (h : tie.At-loop Inv-loop μ-loop) → h .before .stopped .result .core ≡ start h .args .start
-began h = ap (λ (z : Ran). z .core) (h .before .stopped .ensures)
-
 so-far : (h : tie.At-loop Inv-loop μ-loop) → let s = start h in Counted (s .args .alphabet) (s .args .options) (s .args .text .now) (s .args .start) (h .loop .s)
-so-far h =
-    let s = start h in subst (λ (k : Core). Counted (s .args .alphabet) (s .args .options) (s .args .text .now) k (h .loop .s)) (began h) (h .loop .inv)
+so-far h = h .loop .inv
 
 abbrev head : tie.After-part-end Inv-loop μ-loop → tie.At-loop Inv-loop μ-loop
 head e = e .before .before .before
@@ -62,15 +56,8 @@ next y =
 
 -- ---- the needs
 
-stopped-requires : tie.Need-stopped-requires Inv-loop μ-loop
-stopped-requires c κs = search needs
-
 loop-holds : tie.Need-loop-holds Inv-loop μ-loop
-loop-holds c =
-    let s = c .before .before in
-    let e = c .stopped .ensures in
-    subst (λ (k : Core). Counted (s .args .alphabet) (s .args .options) (s .args .text .now) k (c .stopped .result)) (sym (ap (λ (z : Ran). z .core) e))
-    (counted-begins e (s .pre .1 .1))
+loop-holds c = counted-begins refl (c .before .pre .1 .1)
 
 goes-on-requires : tie.Need-goes-on-requires Inv-loop μ-loop
 goes-on-requires c κs = search needs
@@ -111,10 +98,8 @@ loop-less c =
 loop-again : tie.Need-loop-again Inv-loop μ-loop
 loop-again c =
     let y = c .before in
-    let h = head (end y) in
-    let s = start h in
-    let same : Core → Ran → Type 0 = λ k r. Counted (s .args .alphabet) (s .args .options) (s .args .text .now) k r in
-    subst (λ (k : Core). same k (c .then .result)) (sym (began h)) (subst (same (s .args .start)) (sym (c .then .ensures)) (next y))
+    let s = start (head (end y)) in
+    subst (Counted (s .args .alphabet) (s .args .options) (s .args .text .now) (s .args .start)) (sym (c .then .ensures)) (next y)
 
 returns : tie.Need-returns Inv-loop μ-loop
 returns c = let h = c .before .before in counted-done (known h) (so-far h) (sym (c .before .goes-on .ensures) ∙ c .if1 .left) .0
@@ -125,7 +110,6 @@ tally-spec =
     (tie.spec
     Inv-loop
     μ-loop
-    stopped-requires
     loop-holds
     goes-on-requires
     part-end-requires
