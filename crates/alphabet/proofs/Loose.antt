@@ -1,5 +1,5 @@
--- The reader's held bits may stand loose in a byte, with bits above them that do not count: a digit is joined to the whole byte, and what comes
--- out and what counts then are those of `fed`. Once for every width. Assumes nothing.
+-- The reader's held bits may stand loose in a byte, with bits above them that do not count: a digit is joined to the whole byte, and what
+-- comes out and what counts then are those of `fed`. Once for every width. Assumes nothing.
 use Prim.Native.Nat.{ℕ, _+_, _-_, _*_, _/_, _%_, _^_, _<_, _≤_}
 use mathlib.Core.Path.{_≡_, sym, ap, _∙_}
 use native.Mathlib.Omega.{arith}

@@ -3,10 +3,10 @@ use Prim.Native.Nat.{ℕ, _+_, _-_, _*_, _%_, _^_, _<_, _≤_}
 use mathlib.Core.Path.{_≡_, refl, sym, ap, _∙_, subst}
 use mathlib.Core.Bool.{Bool, true, false, cond, _&&_}
 use mathlib.Core.List.{List, [], _++_, append-assoc}
-use native.Mathlib.Nat.{sub-zero, mul-le-mul-right, one-mul}
+use native.Mathlib.Nat.{mul-le-mul-right, one-mul}
 use native.Mathlib.Omega.{arith}
 use lib.Dec.{T, leb, ltb}
-use lib.ListN.{length, take, drop, length-take, take-append-drop}
+use lib.ListN.{length, take, drop, take-append-drop}
 use lib.Seq.{length-take-le, take-length, drop-append-le}
 use lib.Pow.{shl-exact}
 use borrow.Author.Tests.{lt-ltb, le-ltb, ltb-true, ltb-false, leb-true}
@@ -26,7 +26,8 @@ use Rattle.engine.specs.declared.rule.Core.{Core}
 use Rattle.engine.specs.declared.piece.Ran.{Ran}
 use Rattle.engine.specs.Meaning.{stateOf}
 use Rattle.reading.specs.Buffer.{filled}
-use Rattle.engine.specs.Ran.{causeOf, whyAs, goesOn, ranAs, below, limited, Ready, ready, small, unfit, runAs, runBytes, freshAs, freshBytes, coreOf}
+use Rattle.engine.specs.Ran.{causeOf, whyAs, goesOn, ranAs, below, limited, Ready, ready, small, unfit, runAs, runBytes, freshAs}
+use Rattle.engine.specs.Ran.{freshBytes, coreOf}
 
 -- ---- what lies below the limit
 
@@ -52,7 +53,8 @@ unfolding limited atLimitRan P.whyAtLimit whyAs causeOf goesOn
 limited-past q m len f l = go (q .why) (q .took) f
   where
     go : (w : P.Why) (t : ℕ) → (w ≡ P.all → t ≡ m)
-        → limited (ranAs (record { state = q .state; why = w; took = t; wrote = q .wrote })) len ≡ ranAs (atLimitRan (record { state = q .state; why = w; took = t; wrote = q .wrote }))
+        → limited (ranAs (record { state = q .state; why = w; took = t; wrote = q .wrote })) len ≡ ranAs
+        (atLimitRan (record { state = q .state; why = w; took = t; wrote = q .wrote }))
     go P.all t f = rw (lt-ltb t len (omega (arith, f refl)))
     go (P.refused k) t f = refl
     go P.full t f = refl
@@ -63,13 +65,15 @@ unfolding limited whyAs goesOn
 limited-same q len f = go (q .why) f
   where
     go : (w : P.Why) → (w ≡ P.all → len ≤ q .took)
-        → limited (ranAs (record { state = q .state; why = w; took = q .took; wrote = q .wrote })) len ≡ ranAs (record { state = q .state; why = w; took = q .took; wrote = q .wrote })
+        → limited (ranAs (record { state = q .state; why = w; took = q .took; wrote = q .wrote })) len ≡ ranAs
+        (record { state = q .state; why = w; took = q .took; wrote = q .wrote })
     go P.all f = rw (le-ltb (q .took) len (f refl))
     go (P.refused k) f = refl
     go P.full f = refl
 
 module _ (a opts : ℕ) (piece : List ℕ) (s : State) (room : ℕ) where
-  pub below-ran : limited (ranAs (run a opts (take (below (s .taken) (length piece)) piece) s room)) (length piece) ≡ ranAs (runPiece a opts piece s room)
+  pub below-ran : limited (ranAs (run a opts (take (below (s .taken) (length piece)) piece) s room)) (length piece) ≡ ranAs
+      (runPiece a opts piece s room)
   unfolding below runPiece
   below-ran = go (ltb (limit - s .taken) (length piece)) refl
     where
@@ -79,7 +83,9 @@ module _ (a opts : ℕ) (piece : List ℕ) (s : State) (room : ℕ) where
       go true e =
           let front : List ℕ = take (limit - s .taken) piece in
           limited-past (run a opts front s room) (limit - s .taken) (length piece)
-          (λ w. run-feeds a opts front s room [] .all-took w ∙ length-take-le (limit - s .taken) piece (omega (arith, ltb-true (limit - s .taken) (length piece) e))) (ltb-true (limit - s .taken) (length piece) e)
+          (λ w. run-feeds a opts front s room [] .all-took w
+              ∙ length-take-le (limit - s .taken) piece (omega (arith, ltb-true (limit - s .taken) (length piece) e)))
+              (ltb-true (limit - s .taken) (length piece) e)
       go false e =
           rw (take-length piece)
           (limited-same (run a opts piece s room) (length piece) (λ w. omega (arith, run-feeds a opts piece s room [] .all-took w)))
@@ -140,7 +146,8 @@ module _ (a opts : ℕ) (k : Core) (piece o : List ℕ) where
   run-none e q = (rw (e, q), rw e)
 
   pub run-told : {m : ℕ} {q r : Ran} {o' : List ℕ} → ready a opts k ≡ true → m ≡ below (k .taken) (length piece)
-      → (q ≡ ranAs (run a opts (take m piece) (stateOf k) (length o))) × (o' ≡ filled (run a opts (take m piece) (stateOf k) (length o) .wrote) o)
+      → (q ≡ ranAs (run a opts (take m piece) (stateOf k) (length o))) ×
+      (o' ≡ filled (run a opts (take m piece) (stateOf k) (length o) .wrote) o)
       → r ≡ limited q (length piece) → (r ≡ runAs a opts k piece (length o)) × (o' ≡ filled (runBytes a opts k piece (length o)) o)
   unfolding runAs runBytes
   run-told e m f g =
@@ -157,7 +164,8 @@ below-fits taken l e = omega (arith, below-length taken l e, e, below-within tak
 -- ---- a whole text
 
 module _ (a opts : ℕ) (text : List ℕ) where
-  pub fresh-none : {r : Ran} → allowed a opts ≡ false → r ≡ unfit (coreOf fresh) → (r ≡ freshAs a opts text) × (text ≡ filled (freshBytes a opts text) text)
+  pub fresh-none : {r : Ran} → allowed a opts ≡ false → r ≡ unfit (coreOf fresh)
+      → (r ≡ freshAs a opts text) × (text ≡ filled (freshBytes a opts text) text)
   unfolding freshAs freshBytes
   fresh-none e q = (rw (e, q), rw e)
 
@@ -165,10 +173,12 @@ module _ (a opts : ℕ) (text : List ℕ) where
     -- room for as many bytes as lie below the limit never lacks
     fresh-run : run a opts (take m text) fresh (length (take m text)) ≡ run a opts (take (below 0 (length text)) text) fresh (length text)
     fresh-run =
-        run-room a opts (take m text) fresh (length (take m text)) (length text) (omega arith) (omega (arith, below-length 0 text is, is, below-inside 0 (length text)))
+        run-room a opts (take m text) fresh (length (take m text)) (length text) (omega arith)
+            (omega (arith, below-length 0 text is, is, below-inside 0 (length text)))
         ∙ ap (λ (n : ℕ). run a opts (take n text) fresh (length text)) is
 
-    pub fresh-is : {q r : Ran} → q ≡ ranAs (run a opts (take m text) fresh (length (take m text))) → r ≡ limited q (length text) → r ≡ freshAs a opts text
+    pub fresh-is : {q r : Ran} → q ≡ ranAs (run a opts (take m text) fresh (length (take m text))) → r ≡ limited q (length text)
+        → r ≡ freshAs a opts text
     unfolding freshAs
     fresh-is f g = rw (e, g, f, fresh-run) (below-ran a opts text fresh (length text))
 
@@ -184,7 +194,8 @@ module _ (a opts : ℕ) (text : List ℕ) where
         let n : length w ≤ length (take m text) = run-feeds a opts (take m text) fresh (length (take m text)) [] .wrote-in in
         ap (λ (x : List ℕ). x ++ drop m text) f
         ∙ append-assoc w (drop (length w) (take m text)) (drop m text)
-        ∙ ap (λ (x : List ℕ). w ++ x) (sym (drop-append-le (length w) (take m text) (drop m text) n) ∙ ap (drop (length w)) (take-append-drop m text))
+        ∙ ap (λ (x : List ℕ). w ++ x) (sym (drop-append-le (length w) (take m text) (drop m text) n)
+        ∙ ap (drop (length w)) (take-append-drop m text))
         ∙ ap (λ (x : List ℕ). filled x text) fresh-gives
 
 -- ---- the code's fresh state
@@ -192,12 +203,14 @@ module _ (a opts : ℕ) (text : List ℕ) where
 pub start-ready : {a : ℕ} {start : Core} {m : ℕ} → start ≡ coreOf fresh → m ≤ limit → Ready a start m
 start-ready {a} {start} {m} e l = subst (λ (k : Core). Ready a k m) (sym e) (fresh-ready a m l)
 
-pub from-start : (a opts room : ℕ) (piece : List ℕ) {start : Core} {r : Ran} → start ≡ coreOf fresh → r ≡ ranAs (run a opts piece (stateOf start) room) → r ≡ ranAs (run a opts piece fresh room)
+pub from-start : (a opts room : ℕ) (piece : List ℕ) {start : Core} {r : Ran} → start ≡ coreOf fresh
+    → r ≡ ranAs (run a opts piece (stateOf start) room) → r ≡ ranAs (run a opts piece fresh room)
 from-start a opts room piece e f = f ∙ ap (λ (k : Core). ranAs (run a opts piece (stateOf k) room)) e
 
 pub unfit-start : {start : Core} → start ≡ coreOf fresh → unfit start ≡ unfit (coreOf fresh)
 unfit-start e = ap unfit e
 
-pub filled-start : (a opts room : ℕ) (piece o : List ℕ) {start : Core} {o' : List ℕ} → start ≡ coreOf fresh → o' ≡ filled (run a opts piece (stateOf start) room .wrote) o
+pub filled-start : (a opts room : ℕ) (piece o : List ℕ) {start : Core} {o' : List ℕ} → start ≡ coreOf fresh
+    → o' ≡ filled (run a opts piece (stateOf start) room .wrote) o
     → o' ≡ filled (run a opts piece fresh room .wrote) o
 filled-start a opts room piece o e f = f ∙ ap (λ (k : Core). filled (run a opts piece (stateOf k) room .wrote) o) e

@@ -1,32 +1,28 @@
--- What holds at the head of a loop over a piece, that each kind of turn keeps it, and what it gives at the loop's end. One law for the loop into
--- a buffer, the loop in place and the loop that counts. Assumes nothing.
-use Prim.Native.Nat.{ℕ, _+_, _-_, _<_, _≤_, zero-le}
+-- What holds where a part of a run is done, that each kind of byte keeps it, and what it gives at the run's end. Assumes nothing.
+use Prim.Native.Nat.{ℕ, _+_, _-_, _<_, _≤_}
 use mathlib.Core.Path.{_≡_, refl, sym, ap, _∙_, subst}
 use mathlib.Core.List.{List, [], _∷_, _++_, append-assoc, append-nil}
 use native.Mathlib.Nat.{add-zero}
 use native.Mathlib.Omega.{arith}
 use lib.ListN.{length, take, drop, getD, set, length-append, length-drop, drop-of-length-le}
-use lib.Seq.{take-all, set-at, take-at, drop-at, drop-cons, drop-drop, getD-drop}
+use lib.Seq.{take-all, set-at, take-at, drop-at, drop-cons, drop-drop}
 use native.Mathlib.Numerals.{add-one}
-use Rattle.reading.specs.Limit.{limit}
-use Rattle.reading.specs.Reader.{State, Step, takes, gives, refuses, step}
+use Rattle.reading.specs.Reader.{takes, gives, step}
 use Rattle.reading.specs.Sound.{Sound}
-use Rattle.reading.specs.Piece as P
 use Rattle.reading.specs.Piece.{after, run}
 use Rattle.reading.proofs.StepLaws.{Next, Keeps, keeps}
-use Rattle.reading.proofs.RunSteps.{Going, Over, after-after, begins, goes-on, gives-one, is-full, is-refused, is-all}
+use Rattle.reading.proofs.RunSteps.{Going, after-after, begins, goes-on, gives-one, is-full, is-refused, is-all}
 use Rattle.engine.specs.declared.rule.Core.{Core}
 use Rattle.engine.specs.declared.rule.Cause.{Cause}
 use Rattle.engine.specs.declared.rule.Cause.the-variants as C
 use Rattle.engine.specs.declared.rule.Took.{Took}
 use Rattle.engine.specs.declared.rule.Took.the-variants.{Takes, Gives, Refuses}
-use Rattle.engine.specs.declared.piece.Why.{Why}
 use Rattle.engine.specs.declared.piece.Why.the-variants as W
 use Rattle.engine.specs.declared.piece.Ran.{Ran}
 use Rattle.engine.specs.Meaning.{stateOf, stepOf, number, Fit}
 use Rattle.reading.specs.Buffer.{filled}
 use Rattle.engine.specs.Ran.{causeOf, whyAs, ranAs, Ready}
-use Rattle.engine.specs.Loop.{Loop, Filling, Passes}
+use Rattle.engine.specs.Loop.{Loop, Filling}
 
 module _ {a opts : ℕ} {piece : List ℕ} {start : Core} {room : ℕ} {k : Core} {i n : ℕ} {wrote : List ℕ} where
   pub going : Loop a opts piece start room k i n wrote → Going a opts piece (stateOf start) room (stateOf k) i n wrote
@@ -53,7 +49,8 @@ pub record Done (a opts : ℕ) (piece : List ℕ) (start : Core) (room : ℕ) (r
   pub is : r ≡ ranAs (run a opts piece (stateOf start) room)
   pub bytes : run a opts piece (stateOf start) room .wrote ≡ wrote
 
-module _ {a opts : ℕ} {piece : List ℕ} {start : Core} {room : ℕ} {k : Core} {i n : ℕ} {wrote : List ℕ} (h : a < 6) (g : Loop a opts piece start room k i n wrote) where
+module _ {a opts : ℕ} {piece : List ℕ} {start : Core} {room : ℕ} {k : Core} {i n : ℕ} {wrote : List ℕ} (h : a < 6)
+    (g : Loop a opts piece start room k i n wrote) where
   pub fit : Ready a start (length piece) → i < length piece → Fit a k
   fit r l = record { held = g .sound .held; digits = g .sound .digits; pads = g .sound .pads; taken = omega (arith, g .place, r .within) }
 
@@ -75,13 +72,15 @@ module _ {a opts : ℕ} {piece : List ℕ} {start : Core} {room : ℕ} {k : Core
         let m : Next a (stateOf k) (stateOf k') × (x < 256) = subst (Keeps a (stateOf k)) (given q) (kept (getD piece i 0)) in
         looped (gives-one (going g) l r (given q)) (m .0 .sound) (omega (arith, m .0 .one, g .place))
 
-    pub loop-full : {k' : Core} {x : ℕ} → t ≡ Gives x k' → n ≡ room → Done a opts piece start room (record { core = k; why = W.Full; took = i; wrote = n }) wrote
+    pub loop-full : {k' : Core} {x : ℕ} → t ≡ Gives x k' → n ≡ room
+        → Done a opts piece start room (record { core = k; why = W.Full; took = i; wrote = n }) wrote
     unfolding whyAs
     loop-full q r =
         let o = is-full (going g) l r (given q) in
         record { is = rw (o .is, g .size); bytes = rw (o .is) }
 
-    pub loop-refused : {c : Cause} → t ≡ Refuses c → Done a opts piece start room (record { core = k; why = W.Refused c; took = i; wrote = n }) wrote
+    pub loop-refused : {c : Cause} → t ≡ Refuses c
+        → Done a opts piece start room (record { core = k; why = W.Refused c; took = i; wrote = n }) wrote
     unfolding whyAs
     loop-refused {c} q =
         let o = is-refused (going g) l (sym e ∙ ap stepOf q) in
@@ -99,12 +98,7 @@ module _ {a opts : ℕ} {piece : List ℕ} {start : Core} {room : ℕ} {k : Core
 pub stored : (w o : List ℕ) (n x : ℕ) → length w ≡ n → n < length o → set (w ++ drop n o) n x ≡ (w ++ x ∷ []) ++ drop (n + 1) o
 stored w o n x e l = rw (drop-cons o n 0 l, set-at w (getD o n 0) (drop (Prim.Native.Nat.suc n) o) x n e, append-assoc, add-one n)
 
--- what is read ahead of the place that is written is as it was
-pub ahead : (w o : List ℕ) (n i : ℕ) → length w ≡ n → n ≤ i → getD (w ++ drop n o) i 0 ≡ getD o i 0
-ahead w o n i e l =
-    let j : n + (i - n) ≡ i = omega arith in
-    ap (λ (m : ℕ). getD (w ++ drop n o) m 0) (sym j ∙ ap (λ (m : ℕ). m + (i - n)) (sym e)) ∙ lib.Seq.getD-append-add w (drop n o) (i - n) 0 ∙ getD-drop n o (i - n) 0 ∙ ap (λ (m : ℕ). getD o m 0) j
-
+-- the rest of a list, as the code lends it
 pub rest-all : (l : List ℕ) (i : ℕ) → take (length l - i) (drop i l) ≡ drop i l
 rest-all l i = take-all (length l - i) (drop i l) (omega (arith, length-drop i l))
 
@@ -116,31 +110,38 @@ pub past-none : (l : List ℕ) (n : ℕ) → drop (length l - n) (drop n l) ≡ 
 past-none l n = drop-of-length-le (drop n l) {i = length l - n} (omega (arith, length-drop n l))
 
 -- bytes v stored at the front of the rest follow the bytes w
-pub stored-lent : (w v o : List ℕ) {n : ℕ} {out out' : List ℕ} → length w ≡ n → out ≡ w ++ drop n o → out' ≡ filled v (take (length out - n) (drop n out))
+pub stored-lent : (w v o : List ℕ) {n : ℕ} {out out' : List ℕ} → length w ≡ n → out ≡ w ++ drop n o
+    → out' ≡ filled v (take (length out - n) (drop n out))
     → take n out ++ (out' ++ drop (length out - n) (drop n out)) ≡ (w ++ v) ++ drop (n + length v) o
 stored-lent w v o {n} {out} {out'} size front e =
     let rest : drop n out ≡ drop n o = ap (drop n) front ∙ drop-at w (drop n o) n size in
     rw
-    (past-none out n, append-nil, e, rest-all out n, rest, ap (take n) front ∙ take-at w (drop n o) n size, drop-drop (length v) n o, append-assoc)
+    (past-none out n, append-nil, e, rest-all out n, rest, ap (take n) front
+        ∙ take-at w (drop n o) n size, drop-drop (length v) n o, append-assoc)
 
 -- ---- the loop into a buffer
 
-pub filling-begins : (a opts : ℕ) (piece : List ℕ) (k : Core) (out : List ℕ) → Ready a k (length piece) → Filling a opts piece k out out k 0 0
+pub filling-begins : (a opts : ℕ) (piece : List ℕ) (k : Core) (out : List ℕ) → Ready a k (length piece)
+    → Filling a opts piece k out out k 0 0
 filling-begins a opts piece k out r = record { wrote = []; loop = loop-begins a opts piece k (length out) r; front = refl }
 
-module _ {a opts : ℕ} {piece : List ℕ} {start : Core} {out₀ out : List ℕ} {k : Core} {i n : ℕ} (h : a < 6) (f : Filling a opts piece start out₀ out k i n) where
+module _ {a opts : ℕ} {piece : List ℕ} {start : Core} {out₀ out : List ℕ} {k : Core} {i n : ℕ} (h : a < 6)
+    (f : Filling a opts piece start out₀ out k i n) where
   pub same-size : length out ≡ length out₀
   same-size = ap length (f .front) ∙ simp (length-append, length-drop) (omega (arith, f .loop .size, f .loop .fits))
 
   -- the rest of the piece can be read
   pub filling-ready : Ready a start (length piece) → Ready a k (length (take (length piece - i) (drop i piece)))
   filling-ready r =
-      record { sound = f .loop .sound; within = rw (rest-all piece i, length-drop) (omega (arith, f .loop .within, f .loop .place, r .within)) }
+      record { sound = f .loop .sound; within = rw (rest-all piece i, length-drop)
+          (omega (arith, f .loop .within, f .loop .place, r .within)) }
 
-  pub filling-takes : {t : Took} {k' : Core} → i < length piece → stepOf t ≡ step a opts (stateOf k) (getD piece i 0) → t ≡ Takes k' → Filling a opts piece start out₀ out k' (i + 1) n
+  pub filling-takes : {t : Took} {k' : Core} → i < length piece → stepOf t ≡ step a opts (stateOf k) (getD piece i 0) → t ≡ Takes k'
+      → Filling a opts piece start out₀ out k' (i + 1) n
   filling-takes l e q = record { wrote = f .wrote; loop = loop-takes h (f .loop) l e q; front = f .front }
 
-  pub filling-gives : {t : Took} {k' : Core} {x : ℕ} → i < length piece → stepOf t ≡ step a opts (stateOf k) (getD piece i 0) → t ≡ Gives x k' → n < length out₀
+  pub filling-gives : {t : Took} {k' : Core} {x : ℕ} → i < length piece → stepOf t ≡ step a opts (stateOf k) (getD piece i 0)
+      → t ≡ Gives x k' → n < length out₀
       → Filling a opts piece start out₀ (set out n x) k' (i + 1) (n + 1)
   filling-gives {x = x} l e q r =
       record {
@@ -150,7 +151,8 @@ module _ {a opts : ℕ} {piece : List ℕ} {start : Core} {out₀ out : List ℕ
       }
 
   pub filling-done : {q r : Ran} → q ≡ r → Done a opts piece start (length out₀) r (f .wrote)
-      → (q ≡ ranAs (run a opts piece (stateOf start) (length out₀))) × (out ≡ filled (run a opts piece (stateOf start) (length out₀) .wrote) out₀)
+      → (q ≡ ranAs (run a opts piece (stateOf start) (length out₀))) ×
+      (out ≡ filled (run a opts piece (stateOf start) (length out₀) .wrote) out₀)
   filling-done e d = (e ∙ d .is, rw (d .bytes, f .loop .size) (f .front))
 
   -- where a part of the rest is done into the rest of the buffer, more of the whole is done

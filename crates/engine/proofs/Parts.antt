@@ -1,5 +1,5 @@
--- A run over a text that is made in parts, with room for as many bytes as the text has, which never lacks: what a part keeps of what was reached
--- before it, and what is reached in the end. For the loop that counts and the loop in place. Assumes nothing.
+-- A run over a text that is made in parts, with room for as many bytes as the text has, which never lacks: what a part keeps of what was
+-- reached before it, and what is reached in the end. For the loop that counts and the loop in place. Assumes nothing.
 use Prim.Native.Nat.{ℕ, _+_, _-_, _<_, _≤_, zero-le}
 use mathlib.Core.Path.{_≡_, refl, sym, ap, _∙_, subst}
 use mathlib.Core.Logic.{_⊎_, inl, inr}
@@ -47,7 +47,8 @@ fresh-count {a} {opts} {text} {start} r = record {
 }
 
 module _ {a opts : ℕ} {text : List ℕ} {start : Core} {s : Ran} where
-  pub counted-begins : s ≡ record { core = start; why = W.All; took = 0; wrote = 0 } → Ready a start (length text) → Counted a opts text start s
+  pub counted-begins : s ≡ record { core = start; why = W.All; took = 0; wrote = 0 } → Ready a start (length text)
+      → Counted a opts text start s
   counted-begins e r =
       subst (Counted a opts text start) (sym e) (fresh-count r)
 
@@ -66,7 +67,8 @@ module _ {a opts : ℕ} {text : List ℕ} {start : Core} {s : Ran} where
     counted-done e = go (all-or-not (s .why))
       where
         go : (s .why ≡ W.All) ⊎ (s .why ≡ W.All → ⊥)
-            → (s ≡ ranAs (run a opts text (stateOf start) (length text))) × (run a opts text (stateOf start) (length text) .wrote ≡ f .wrote)
+            → (s ≡ ranAs (run a opts text (stateOf start) (length text))) ×
+            (run a opts text (stateOf start) (length text) .wrote ≡ f .wrote)
         go (inl w) =
             let d = loop-all h (f .goes w .loop) (goes-no-more (s .why) (s .took) (length text) e w) in
             (all-is s w ∙ d .is, d .bytes)
@@ -83,7 +85,8 @@ settled-begins {a} {opts} {buf} {start} e r = subst (Settled a opts buf start bu
 
 -- ---- a part
 
-module _ {a opts : ℕ} {text : List ℕ} {start k : Core} {i n e : ℕ} {wrote : List ℕ} (f : Counting a opts text start k i n wrote) (p : Part i e (length text)) where
+module _ {a opts : ℕ} {text : List ℕ} {start k : Core} {i n e : ℕ} {wrote : List ℕ} (f : Counting a opts text start k i n wrote)
+    (p : Part i e (length text)) where
   pub part-size : length (take (e - i) (drop i text)) ≡ e - i
   part-size = length-take-le (e - i) (drop i text) (omega (arith, length-drop i text, p .begins, p .within))
 
@@ -132,7 +135,8 @@ module _ {a opts : ℕ} {text : List ℕ} {start : Core} {e room : ℕ} {wrote p
       rw (run-room a opts part (stateOf (s .core)) (length text - s .wrote) (length part) enough (omega arith))
       (run-feeds a opts part (stateOf (s .core)) (length part) [] .wrote-in)
 
-  part-goes : q .why ≡ P.all → Counting a opts text start (coreOf (q .state)) (s .took + q .took) (s .wrote + length (q .wrote)) (wrote ++ q .wrote)
+  part-goes : q .why ≡ P.all → Counting a opts text start (coreOf (q .state)) (s .took + q .took) (s .wrote + length (q .wrote))
+      (wrote ++ q .wrote)
   part-goes w =
       let took : s .took + q .took ≡ e = omega (arith, did .all-took w, size, p .begins) in
       let left : length text - s .wrote - length (q .wrote) ≡ length text - (s .wrote + length (q .wrote)) = omega arith in
@@ -188,14 +192,16 @@ module _ {a opts : ℕ} {text : List ℕ} {start : Core} {e room : ℕ} {wrote p
     settled-then {buf} {out} front fill =
         let lent : out ≡ filled (q .wrote) (take (length buf - s .wrote) (drop (s .wrote) buf)) =
         fill ∙ ap (λ (z : P.Ran). filled (z .wrote) (take (length buf - s .wrote) (drop (s .wrote) buf))) part-run in
-        subst (λ (z : Ran). Settled a opts text start (take (s .wrote) buf ++ (out ++ drop (length buf - s .wrote) (drop (s .wrote) buf))) (thenAs s z)) (sym so)
+        subst (λ (z : Ran). Settled a opts text start (take (s .wrote) buf ++ (out ++ drop (length buf - s .wrote) (drop (s .wrote) buf)))
+            (thenAs s z)) (sym so)
         (record { count = reached; front = stored-lent wrote (q .wrote) text (f .loop .size) front lent })
 
 -- ---- what the loop in place reads
 
 module _ {a opts : ℕ} {buf₀ : List ℕ} {start : Core} {buf : List ℕ} {s : Ran} (h : a < 6) (f : Settled a opts buf₀ start buf s) where
   pub settled-done : goesOn (s .why) (s .took) (length buf₀) ≡ false
-      → (s ≡ ranAs (run a opts buf₀ (stateOf start) (length buf₀))) × (buf ≡ filled (run a opts buf₀ (stateOf start) (length buf₀) .wrote) buf₀)
+      → (s ≡ ranAs (run a opts buf₀ (stateOf start) (length buf₀))) ×
+      (buf ≡ filled (run a opts buf₀ (stateOf start) (length buf₀) .wrote) buf₀)
   settled-done e =
       let d = counted-done h (f .count) e in
       let told : s .wrote ≡ length (run a opts buf₀ (stateOf start) (length buf₀) .wrote) = ap (λ (z : Ran). z .wrote) (d .0) in
@@ -223,7 +229,8 @@ module _ {a opts : ℕ} {buf₀ : List ℕ} {start : Core} {buf : List ℕ} {s :
     ahead =
         let j : s .wrote + (s .took - s .wrote) ≡ s .took = omega (arith, c .behind) in
         ap (drop (s .took)) (f .front)
-        ∙ ap (λ (m : ℕ). drop m (f .count .wrote ++ drop (s .wrote) buf₀)) (sym j ∙ ap (λ (m : ℕ). m + (s .took - s .wrote)) (sym (c .loop .size)))
+        ∙ ap (λ (m : ℕ). drop m (f .count .wrote ++ drop (s .wrote) buf₀))
+        (sym j ∙ ap (λ (m : ℕ). m + (s .took - s .wrote)) (sym (c .loop .size)))
         ∙ drop-append-add (f .count .wrote) (drop (s .wrote) buf₀) (s .took - s .wrote)
         ∙ drop-drop (s .took - s .wrote) (s .wrote) buf₀
         ∙ ap (λ (m : ℕ). drop m buf₀) j
@@ -231,7 +238,8 @@ module _ {a opts : ℕ} {buf₀ : List ℕ} {start : Core} {buf : List ℕ} {s :
     pub settled-reads : length (take (e - s .took) (drop (s .took) buf)) ≡ e - s .took
     settled-reads = rw ahead (part-size c settled-ends)
 
-    module _ (aside : List ℕ) (copied : take (length (take (e - s .took) (drop (s .took) buf))) aside ≡ take (e - s .took) (drop (s .took) buf)) where
+    module _ (aside : List ℕ) (copied : take (length (take (e - s .took) (drop (s .took) buf))) aside ≡ take (e - s .took)
+        (drop (s .took) buf)) where
       pub settled-part : take (e - s .took) aside ≡ take (e - s .took) (drop (s .took) buf₀)
       settled-part = ap (λ (m : ℕ). take m aside) (sym settled-reads) ∙ copied ∙ ap (take (e - s .took)) ahead
 
@@ -239,4 +247,5 @@ module _ {a opts : ℕ} {buf₀ : List ℕ} {start : Core} {buf : List ℕ} {s :
       settled-whole = ap length settled-part ∙ part-size c settled-ends
 
       pub settled-fits : length (take (e - s .took) aside) ≤ length (take (length buf - s .wrote) (drop (s .wrote) buf))
-      settled-fits = rw (settled-whole, rest-all buf (s .wrote), length-drop (s .wrote) buf) (omega (arith, c .behind, p .begins, p .within))
+      settled-fits = rw (settled-whole, rest-all buf (s .wrote), length-drop (s .wrote) buf)
+          (omega (arith, c .behind, p .begins, p .within))

@@ -1,4 +1,4 @@
--- What holds at the head of the loop over digits as they stand, that a digit keeps it, and what it gives at the loop's end. Assumes nothing.
+-- What holds at the head of the loop over digits as they stand, that a digit keeps it, and what it gives at the end. Assumes nothing.
 use Prim.Native.Nat.{ℕ, _+_, _-_, _*_, _/_, _%_, _^_, _<_, _≤_}
 use mathlib.Core.Path.{_≡_, refl, sym, ap, _∙_, subst}
 use mathlib.Core.Bool.{true}
@@ -17,7 +17,7 @@ use Rattle.alphabet.proofs.TableLaws.{entry-digit}
 use Rattle.alphabet.proofs.Loose.{loose-held, loose-byte}
 use Rattle.reading.specs.Options.{allowed}
 use Rattle.reading.specs.Limit.{limit}
-use Rattle.reading.specs.Reader.{takes, gives, heldBits, step}
+use Rattle.reading.specs.Reader.{takes, gives, heldBits}
 use Rattle.reading.proofs.LimitLaws.{limit-small}
 use Rattle.reading.proofs.OptionLaws.{strict-allowed}
 use Rattle.reading.proofs.StepLaws.{held-then, left-then}
@@ -25,9 +25,9 @@ use Rattle.reading.proofs.StepCases.{Stands, stands}
 use Rattle.engine.specs.declared.rule.Core.{Core}
 use Rattle.engine.specs.declared.rule.Took.the-variants.{Takes, Gives}
 use Rattle.engine.specs.declared.digits.Passed.{Passed}
-use Rattle.engine.specs.Meaning.{stateOf, stepOf, Fit}
+use Rattle.engine.specs.Meaning.{stateOf, Fit}
 use Rattle.engine.specs.Ran.{Ready}
-use Rattle.engine.specs.Loop.{Loop, Filling, Passes, coreAt, passedAs}
+use Rattle.engine.specs.Loop.{Filling, Passes, coreAt, passedAs}
 use Rattle.engine.proofs.Steps.{digit-held, digit-gives}
 use Rattle.engine.proofs.Loops.{filling-begins, filling-takes, filling-gives, same-size, fit}
 
@@ -67,12 +67,10 @@ module _ {a : ℕ} {start : Core} {piece out₀ out : List ℕ} {h r i n : ℕ} 
   pub plain-fits : n ≤ length out₀
   plain-fits = strict .loop .fits
 
-  pub plain-within : i ≤ length piece
-  plain-within = strict .loop .within
-
   -- the sums of the state fit
   pub plain-sums : Ready a start (length piece) → (start .digits + i < 2 ^ 40) × (start .taken + i < 2 ^ 40)
-  plain-sums q = (omega (arith, strict .loop .within, q .sound .digits, q .within, limit-small), omega (arith, strict .loop .within, q .within, limit-small))
+  plain-sums q = (omega (arith, strict .loop .within, q .sound .digits, q .within, limit-small), omega
+      (arith, strict .loop .within, q .within, limit-small))
 
   pub plain-passes : {y : Passed} → y ≡ passedAs start h r i n → Passes a start piece out₀ out y
   plain-passes e = subst (Passes a start piece out₀ out) (sym e) (record { fills = f .fills })
@@ -80,13 +78,14 @@ module _ {a : ℕ} {start : Core} {piece out₀ out : List ℕ} {h r i n : ℕ} 
   module _ {t : List ℕ} {v : ℕ} (e : t ≡ entries) (q : Ready a start (length piece)) (l : i < length piece) (inside : getD piece i 0 < 256)
       (is : v ≡ getD t (a * 256 + getD piece i 0) 0) (m : v ≡ 255 → ⊥) where
     -- the byte is a digit as it stands
-    digit : (opts : ℕ) → allowed a opts ≡ true → Stands a opts (stateOf (coreAt start h r i)) (getD piece i 0) v
-    digit opts w =
+    pub plain-digit : (opts : ℕ) → allowed a opts ≡ true → Stands a opts (stateOf (coreAt start h r i)) (getD piece i 0) v
+    plain-digit opts w =
         let same : v ≡ getD entries (a * 256 + getD piece i 0) 0 = is ∙ ap (λ (y : List ℕ). getD y (a * 256 + getD piece i 0) 0) e in
-        stands a opts (stateOf (coreAt start h r i)) (getD piece i 0) w (entry-digit a (getD piece i 0) x inside (λ z. m (same ∙ z)) ∙ ap Digit (sym same))
+        stands a opts (stateOf (coreAt start h r i)) (getD piece i 0) w (entry-digit a (getD piece i 0) x inside (λ z. m (same ∙ z))
+            ∙ ap Digit (sym same))
 
     pub small : v < 2 ^ bits a
-    small = digit 0 (strict-allowed a x) .small
+    small = plain-digit 0 (strict-allowed a x) .small
 
     now-fit : Fit a (coreAt start h r i)
     now-fit = fit x (strict .loop) q l
@@ -98,7 +97,8 @@ module _ {a : ℕ} {start : Core} {piece out₀ out : List ℕ} {h r i n : ℕ} 
     wide = omega (arith, bits-high a x)
 
     -- the state after the digit, as the loop has it
-    next : (y z : ℕ) → coreAt start y z (i + 1) ≡ record { digits = start .digits + i + 1; held = y % 2 ^ z; pads = 0; taken = start .taken + i + 1 }
+    next : (y z : ℕ)
+        → coreAt start y z (i + 1) ≡ record { digits = start .digits + i + 1; held = y % 2 ^ z; pads = 0; taken = start .taken + i + 1 }
     next y z = rw (add-assoc, add-assoc)
 
     holds : r + bits a < 8 → Plain a start piece out₀ out ((h * 2 ^ bits a + v) % 256) (r + bits a) (i + 1) n
@@ -109,12 +109,13 @@ module _ {a : ℕ} {start : Core} {piece out₀ out : List ℕ} {h r i n : ℕ} 
         let held = loose-held (bits a) r h wide (plain-few) small s in
         record {
           byte = mod-lt _ (omega arith);
-          few = sym (held-then a x (stateOf k) (strict .loop .sound) (rw (← f .few) s) ∙ ap (λ (z : ℕ). z + bits a) (sym (f .few))) ∙ rw add-assoc;
+          few = sym (held-then a x (stateOf k) (strict .loop .sound) (rw (← f .few) s) ∙ ap (λ (z : ℕ). z + bits a) (sym (f .few)))
+              ∙ rw add-assoc;
           fills = λ opts w.
               filling-takes x (f .fills opts w) {t = Takes (coreAt start y (r + bits a) (i + 1))} l
               (ap (λ (c : Core). takes (stateOf c)) (next y (r + bits a))
               ∙ digit-held a x k now-fit small (omega arith) (ap (λ (z : ℕ). fed (bits a) z (h % 2 ^ r) v) (sym (f .few)) ∙ held)
-              ∙ sym (digit opts w .is))
+              ∙ sym (plain-digit opts w .is))
               refl;
         }
 
@@ -128,12 +129,13 @@ module _ {a : ℕ} {start : Core} {piece out₀ out : List ℕ} {h r i n : ℕ} 
         let held = loose-byte (bits a) r h wide (plain-few) small b s in
         record {
           byte = mod-lt _ (omega arith);
-          few = omega (arith, s, f .few, left-then a x (stateOf k) (strict .loop .sound) (omega (arith, s, f .few)), add-assoc (start .digits) i 1);
+          few = omega (arith, s, f .few, left-then a x (stateOf k) (strict .loop .sound) (omega (arith, s, f .few)), add-assoc
+              (start .digits) i 1);
           fills = λ opts w.
               filling-gives x (f .fills opts w) {t = Gives o (coreAt start y b (i + 1))} l
               (ap (λ (c : Core). gives o (stateOf c)) (next y b)
               ∙ digit-gives a x k now-fit small (omega arith) (ap (λ (z : ℕ). fed (bits a) z (h % 2 ^ r) v) (sym (f .few)) ∙ held)
-              ∙ sym (digit opts w .is))
+              ∙ sym (plain-digit opts w .is))
               refl room;
         }
 
@@ -146,7 +148,8 @@ module _ {a : ℕ} {start : Core} {piece out₀ out : List ℕ} {h r i n : ℕ} 
       plain-holds s = rw (w, shift) (holds (rw (← w) s))
 
       pub plain-gives : 8 ≤ r + b → n < length out₀
-          → Plain a start piece out₀ (set out n ((h * 2 ^ b % 2 ^ 64 + v) / 2 ^ (r + b - 8) % 256)) ((h * 2 ^ b % 2 ^ 64 + v) % 256) (r + b - 8) (i + 1) (n + 1)
+          → Plain a start piece out₀ (set out n ((h * 2 ^ b % 2 ^ 64 + v) / 2 ^ (r + b - 8) % 256)) ((h * 2 ^ b % 2 ^ 64 + v) % 256)
+          (r + b - 8) (i + 1) (n + 1)
       plain-gives s room = rw (w, shift) (gives-byte (r + bits a - 8) (omega (arith, w)) room)
 
       pub plain-joins : h * 2 ^ b % 2 ^ 64 + v < 2 ^ 17

@@ -24,7 +24,8 @@ use Rattle.engine.specs.declared.piece.Ran.{Ran}
 use Rattle.engine.specs.Meaning.{stateOf, stepOf}
 use Rattle.engine.specs.Ran.{coreOf, whyAs, goesOn, thenAs, ranAs, Ready}
 use Rattle.engine.specs.Loop.{Filling, Reached, Stretch, putAs, putIn}
-use Rattle.engine.proofs.Loops.{filling-begins, filling-lent, filling-takes, filling-gives, filling-done, same-size, loop-full, loop-refused, loop-all, rest-all, stored-lent}
+use Rattle.engine.proofs.Loops.{filling-begins, filling-lent, filling-takes, filling-gives, filling-done, same-size, loop-full}
+use Rattle.engine.proofs.Loops.{loop-refused, loop-all, rest-all, stored-lent}
 
 -- ---- whether it goes on
 
@@ -85,7 +86,8 @@ all-is s e j = record { core = s .core; why = e j; took = s .took; wrote = s .wr
 -- ---- into a buffer
 
 module _ {a opts : ℕ} {k : Core} {piece out₀ out : List ℕ} where
-  pub reached-goes : {r : Ran} {k' : Core} {i n : ℕ} → r ≡ record { core = k'; why = W.All; took = i; wrote = n } → Filling a opts piece k out₀ out k' i n
+  pub reached-goes : {r : Ran} {k' : Core} {i n : ℕ} → r ≡ record { core = k'; why = W.All; took = i; wrote = n }
+      → Filling a opts piece k out₀ out k' i n
       → Reached a opts k piece out₀ out r
   reached-goes e f =
       subst (Reached a opts k piece out₀ out) (sym e) (record { goes = λ x. f; is = λ x. absurd (x refl); bytes = λ x. absurd (x refl) })
@@ -95,7 +97,8 @@ module _ {a opts : ℕ} {k : Core} {piece out₀ out : List ℕ} where
   reached-begins e q o =
       reached-goes e (subst (λ (x : List ℕ). Filling a opts piece k out₀ x k 0 0) (sym o) (filling-begins a opts piece k out₀ q))
 
-  pub stretch-goes : {r : Ran} {k' : Core} {i n : ℕ} → r ≡ record { core = k'; why = W.All; took = i; wrote = n } → Filling a opts piece k out₀ out k' i n
+  pub stretch-goes : {r : Ran} {k' : Core} {i n : ℕ} → r ≡ record { core = k'; why = W.All; took = i; wrote = n }
+      → Filling a opts piece k out₀ out k' i n
       → (0 < length piece → 0 < i) → Stretch a opts k piece out₀ out r
   stretch-goes {i = i} e f s =
       record { reached = reached-goes e f; some = λ w l. subst (λ (z : Ran). 0 < z .took) (sym e) (s l) }
@@ -110,7 +113,8 @@ module _ {a opts : ℕ} {k : Core} {piece out₀ out : List ℕ} where
 -- a byte after digits
 pub stretch-put : {a opts : ℕ} {k : Core} {piece out₀ out : List ℕ} {p : Passed} {r : Ran} {room : ℕ} {out' : List ℕ} (byte : Took) → a < 6
     → Filling a opts piece k out₀ out (p .core) (p .took) (p .wrote) → p .took < length piece
-    → stepOf byte ≡ step a opts (stateOf (p .core)) (getD piece (p .took) 0) → room ≡ length out → r ≡ putAs p byte room → out' ≡ putIn p byte out
+    → stepOf byte ≡ step a opts (stateOf (p .core)) (getD piece (p .took) 0) → room ≡ length out → r ≡ putAs p byte room
+    → out' ≡ putIn p byte out
     → Stretch a opts k piece out₀ out' r
 unfolding putAs putIn
 stretch-put {a} {opts} {k} {piece} {out₀} {out} {p} {r} {room} {out'} byte h f l e z is o =
@@ -123,17 +127,21 @@ stretch-put {a} {opts} {k} {piece} {out₀} {out} {p} {r} {room} {out'} byte h f
     full = record { core = p .core; why = W.Full; took = p .took; wrote = p .wrote }
 
     -- a byte given, where there is room and where there is none
-    room-or-not : (x : ℕ) (c : Core) → gives x (stateOf c) ≡ step a opts (stateOf (p .core)) (getD piece (p .took) 0) → r ≡ putAs p (Gives x c) room
+    room-or-not : (x : ℕ) (c : Core) → gives x (stateOf c) ≡ step a opts (stateOf (p .core)) (getD piece (p .took) 0)
+        → r ≡ putAs p (Gives x c) room
         → (t : Bool) → ltb (p .wrote) room ≡ t → Stretch a opts k piece out₀ (putIn p (Gives x c) out) r
     room-or-not x c e is true q =
         rw (← z, q)
-        (stretch-goes (is ∙ rw q) (filling-gives h f {t = Gives x c} l e refl (omega (arith, ltb-true (p .wrote) room q, size))) (λ n. omega arith))
+        (stretch-goes (is ∙ rw q) (filling-gives h f {t = Gives x c} l e refl (omega (arith, ltb-true (p .wrote) room q, size)))
+            (λ n. omega arith))
     room-or-not x c e is false q =
         rw (← z, q)
         (stretch-stops {r = full} (is ∙ rw q) full-not-all
-        (filling-done h f {r = full} (is ∙ rw q) (loop-full h (f .loop) {t = Gives x c} l e refl (omega (arith, ltb-false (p .wrote) room q, size, f .loop .fits)))))
+        (filling-done h f {r = full} (is ∙ rw q)
+            (loop-full h (f .loop) {t = Gives x c} l e refl (omega (arith, ltb-false (p .wrote) room q, size, f .loop .fits)))))
 
-    go : (b : Took) → stepOf b ≡ step a opts (stateOf (p .core)) (getD piece (p .took) 0) → r ≡ putAs p b room → Stretch a opts k piece out₀ (putIn p b out) r
+    go : (b : Took) → stepOf b ≡ step a opts (stateOf (p .core)) (getD piece (p .took) 0) → r ≡ putAs p b room
+        → Stretch a opts k piece out₀ (putIn p b out) r
     go (Takes c) e is = stretch-goes is (filling-takes h f {t = Takes c} l e refl) (λ n. omega arith)
     go (Gives x c) e is = room-or-not x c e is (ltb (p .wrote) room) refl
     go (Refuses c) e is = stretch-stops is refused-not-all (filling-done h f is (loop-refused h (f .loop) {t = Refuses c} l e refl))
@@ -146,7 +154,8 @@ module _ {a opts : ℕ} {start : Core} {piece out₀ out : List ℕ} {s : Ran} (
       go (inl e) = same-size h (f .goes e)
       go (inr n) =
           let w : List ℕ = run a opts piece (stateOf start) (length out₀) .wrote in
-          ap length (f .bytes n) ∙ simp (length-append, length-drop) (omega (arith, run-feeds a opts piece (stateOf start) (length out₀) [] .wrote-in))
+          ap length (f .bytes n)
+              ∙ simp (length-append, length-drop) (omega (arith, run-feeds a opts piece (stateOf start) (length out₀) [] .wrote-in))
 
   pub reached-sums : (s .took ≤ length piece) × (s .wrote ≤ length out₀)
   reached-sums = go (all-or-not (s .why))
@@ -158,29 +167,34 @@ module _ {a opts : ℕ} {start : Core} {piece out₀ out : List ℕ} {s : Ran} (
           subst (λ (z : Ran). (z .took ≤ length piece) × (z .wrote ≤ length out₀)) (sym (f .is n)) (r .took-in, r .wrote-in)
 
   pub reached-then : {out' : List ℕ} {r : Ran} (e : s .why ≡ W.All)
-      → Reached a opts (s .core) (take (length piece - s .took) (drop (s .took) piece)) (take (length out - s .wrote) (drop (s .wrote) out)) out' r
+      → Reached a opts (s .core) (take (length piece - s .took) (drop (s .took) piece))
+      (take (length out - s .wrote) (drop (s .wrote) out)) out' r
       → Reached a opts start piece out₀ (take (s .wrote) out ++ (out' ++ drop (length out - s .wrote) (drop (s .wrote) out))) (thenAs s r)
   reached-then {out'} {r} e g =
       let p = f .goes e in
       let room : length (take (length out - s .wrote) (drop (s .wrote) out)) ≡ length out₀ - s .wrote =
       ap length (rest-all out (s .wrote)) ∙ length-drop (s .wrote) out ∙ ap (λ (m : ℕ). m - s .wrote) reached-size in
       let q : P.Ran = run a opts (drop (s .took) piece) (stateOf (s .core)) (length out₀ - s .wrote) in
-      let rest : run a opts (take (length piece - s .took) (drop (s .took) piece)) (stateOf (s .core)) (length (take (length out - s .wrote) (drop (s .wrote) out))) ≡ q =
+      let rest : run a opts (take (length piece - s .took) (drop (s .took) piece)) (stateOf (s .core))
+          (length (take (length out - s .wrote) (drop (s .wrote) out))) ≡ q =
       rw (rest-all piece (s .took), room) in
       record {
         goes = λ x. filling-lent h p (g .goes x);
         is = λ x. ap (thenAs s) (g .is x ∙ ap ranAs rest) ∙ then-after s (p .wrote) q (p .loop .size) ∙ ap ranAs (sym (p .loop .same));
         bytes = λ x.
-            stored-lent (p .wrote) (q .wrote) out₀ (p .loop .size) (p .front) (g .bytes x ∙ ap (λ (z : P.Ran). filled (z .wrote) (take (length out - s .wrote) (drop (s .wrote) out))) rest)
+            stored-lent (p .wrote) (q .wrote) out₀ (p .loop .size) (p .front)
+                (g .bytes x ∙ ap (λ (z : P.Ran). filled (z .wrote) (take (length out - s .wrote) (drop (s .wrote) out))) rest)
             ∙ rw (p .loop .same, length-append, p .loop .size);
       }
 
   pub reached-done : goesOn (s .why) (s .took) (length piece) ≡ false
-      → (s ≡ ranAs (run a opts piece (stateOf start) (length out₀))) × (out ≡ filled (run a opts piece (stateOf start) (length out₀) .wrote) out₀)
+      → (s ≡ ranAs (run a opts piece (stateOf start) (length out₀))) ×
+      (out ≡ filled (run a opts piece (stateOf start) (length out₀) .wrote) out₀)
   reached-done e = go (all-or-not (s .why))
     where
       go : (s .why ≡ W.All) ⊎ (s .why ≡ W.All → ⊥)
-          → (s ≡ ranAs (run a opts piece (stateOf start) (length out₀))) × (out ≡ filled (run a opts piece (stateOf start) (length out₀) .wrote) out₀)
+          → (s ≡ ranAs (run a opts piece (stateOf start) (length out₀))) ×
+          (out ≡ filled (run a opts piece (stateOf start) (length out₀) .wrote) out₀)
       go (inl w) =
           let p = f .goes w in
           let d = loop-all h (p .loop) (goes-no-more (s .why) (s .took) (length piece) e w) in

@@ -4,12 +4,11 @@ use mathlib.Core.Path.{refl, ap}
 use native.Mathlib.Omega.{arith}
 use lib.ListN.{length, getD}
 use borrow.Author.Needs.{needs}
-use Rattle.alphabet.specs.Alphabet.{bits}
 use Rattle.alphabet.proofs.AlphabetLaws.{bits-high}
-use Rattle.alphabet.proofs.Shifts.{shifted, shifted-lt}
 use Rattle.engine.specs.Ran.{Ready}
 use Rattle.engine.proofs.AtLimit.{small-product}
-use Rattle.engine.proofs.Plain.{Plain, digits-below, plain-begins, plain-few, plain-size, plain-fits, plain-within, plain-sums, plain-passes, byte-small, plain-joins, plain-holds, plain-gives}
+use Rattle.engine.proofs.Plain.{Plain, digits-below, plain-begins, plain-few, plain-size, plain-fits, plain-sums}
+use Rattle.engine.proofs.Plain.{plain-passes, byte-small, plain-joins, plain-holds, plain-gives}
 use Rattle.engine.proofs.digits.at_width.Statement.{statement}
 use Rattle.engine.proofs.digits.at_width.Tie as tie
 
@@ -48,7 +47,8 @@ inside : (e : tie.Else1 Inv-loop μ-loop) → byte (head e) < 256
 inside e = omega (arith, e .before .before .shared-slice-known2 .given (head e .loop .i))
 
 low : (e : tie.Else1 Inv-loop μ-loop) → value (head e) < 256
-low e = let h = head e in byte-small (known h) (h .loop .inv) (start h .pre .0) (ready h) (e .before .before .before .loop-test .taken) (inside e) refl (e .if1 .left)
+low e = let h = head e in byte-small (known h) (h .loop .inv) (start h .pre .0) (ready h) (e .before .before .before .loop-test .taken)
+    (inside e) refl (e .if1 .left)
 
 -- ---- the needs
 
@@ -56,10 +56,12 @@ mul-row : tie.Need-mul-row Inv-loop μ-loop
 mul-row c = search needs
 
 mul-r : tie.Need-mul-r Inv-loop μ-loop
-mul-r c = let p = c .before .before .before .pre in rw (p .1 .1 .0) (omega (arith, small-product _ _ (p .1 .0) (digits-below (p .1 .1 .1 .1))))
+mul-r c = let p = c .before .before .before .pre in
+    rw (p .1 .1 .0) (omega (arith, small-product _ _ (p .1 .0) (digits-below (p .1 .1 .1 .1))))
 
 loop-holds : tie.Need-loop-holds Inv-loop μ-loop
-loop-holds c = let p = c .before .before .before .pre in plain-begins _ _ _ _ (p .1 .1 .1 .1) (p .1 .1 .1 .0) (ap (λ (b : ℕ). b * c .before .before .before .args .k .digits % 8) (p .1 .1 .0))
+loop-holds c = let p = c .before .before .before .pre in
+    plain-begins _ _ _ _ (p .1 .1 .1 .1) (p .1 .1 .1 .0) (ap (λ (b : ℕ). b * c .before .before .before .args .k .digits % 8) (p .1 .1 .0))
 
 shared-slice-read-at : tie.Need-shared-slice-read-at Inv-loop μ-loop
 shared-slice-read-at c = search needs
@@ -74,7 +76,8 @@ element-copy-out-v : tie.Need-element-copy-out-v Inv-loop μ-loop
 element-copy-out-v c = omega (arith, c .shared-slice-known2 .given (c .before .before .loop .i), known (c .before .before))
 
 after-requires : tie.Need-after-requires Inv-loop μ-loop
-after-requires c κs = let h = c .before .before .before .before in (plain-few (known h) (h .loop .inv), plain-sums (known h) (h .loop .inv) (start h .pre .1 .1 .1 .1))
+after-requires c κs = let h = c .before .before .before .before in
+    (plain-few (known h) (h .loop .inv), plain-sums (known h) (h .loop .inv) (start h .pre .1 .1 .1 .1))
 
 same-length : tie.Need-same-length Inv-loop μ-loop
 same-length c = let h = c .before .before .before .before .before in plain-size (known h) (h .loop .inv)
@@ -94,7 +97,8 @@ cast-z-2 c = omega (arith, low c)
 add-z : tie.Need-add-z Inv-loop μ-loop
 add-z c =
     let h = head c in
-    omega (arith, plain-joins (known h) (h .loop .inv) (start h .pre .0) (ready h) (c .before .before .before .loop-test .taken) (inside c) refl (c .if1 .left) (start h .pre .1 .1 .0))
+    omega (arith, plain-joins (known h) (h .loop .inv) (start h .pre .0) (ready h) (c .before .before .before .loop-test .taken)
+        (inside c) refl (c .if1 .left) (start h .pre .1 .1 .0))
 
 add-s : tie.Need-add-s Inv-loop μ-loop
 add-s c = let h = c .before .before .before .before in omega (arith, wide h, plain-few (known h) (h .loop .inv))
@@ -113,17 +117,20 @@ loop-again c =
     let e = c .before in
     let h = head e in
     let p = start h .pre in
-    plain-holds (known h) (h .loop .inv) (p .0) (ready h) (e .before .before .before .loop-test .taken) (inside e) refl (e .if1 .left) (p .1 .1 .0)
+    plain-holds (known h) (h .loop .inv) (p .0) (ready h) (e .before .before .before .loop-test .taken) (inside e) refl (e .if1 .left)
+        (p .1 .1 .0)
     (c .if2 .taken)
 
 after-requires-2 : tie.Need-after-requires-2 Inv-loop μ-loop
-after-requires-2 c κs = let h = c .before .before .before .before .before .before in (plain-few (known h) (h .loop .inv), plain-sums (known h) (h .loop .inv) (start h .pre .1 .1 .1 .1))
+after-requires-2 c κs = let h = c .before .before .before .before .before .before in
+    (plain-few (known h) (h .loop .inv), plain-sums (known h) (h .loop .inv) (start h .pre .1 .1 .1 .1))
 
 same-length-2 : tie.Need-same-length-2 Inv-loop μ-loop
 same-length-2 c = let h = c .before .before .before .before .before .before .before in plain-size (known h) (h .loop .inv)
 
 returns-2 : tie.Need-returns-2 Inv-loop μ-loop
-returns-2 c = let h = c .before .before .before .before .before .before .before in plain-passes (known h) (h .loop .inv) (c .after2 .ensures)
+returns-2 c = let h = c .before .before .before .before .before .before .before in
+    plain-passes (known h) (h .loop .inv) (c .after2 .ensures)
 
 shr-out : tie.Need-shr-out Inv-loop μ-loop
 shr-out c = let h = c .before .before .before .before .before .before in omega (arith, wide h, plain-few (known h) (h .loop .inv))
@@ -132,10 +139,12 @@ cast-out : tie.Need-cast-out Inv-loop μ-loop
 cast-out c = search needs
 
 slice-write-out : tie.Need-slice-write-out Inv-loop μ-loop
-slice-write-out c = let h = c .before .before .before .before .before .before in omega (arith, plain-size (known h) (h .loop .inv), plain-fits (known h) (h .loop .inv), c .if3 .left)
+slice-write-out c = let h = c .before .before .before .before .before .before in
+    omega (arith, plain-size (known h) (h .loop .inv), plain-fits (known h) (h .loop .inv), c .if3 .left)
 
 add-n : tie.Need-add-n Inv-loop μ-loop
-add-n c = let h = c .before .before .before .before .before .before in omega (arith, plain-size (known h) (h .loop .inv), plain-fits (known h) (h .loop .inv), c .if3 .left)
+add-n c = let h = c .before .before .before .before .before .before in
+    omega (arith, plain-size (known h) (h .loop .inv), plain-fits (known h) (h .loop .inv), c .if3 .left)
 
 cast-h-2 : tie.Need-cast-h-2 Inv-loop μ-loop
 cast-h-2 c = search needs
@@ -151,11 +160,13 @@ loop-again-2 c =
     let e = c .before .before in
     let h = head e in
     let p = start h .pre in
-    plain-gives (known h) (h .loop .inv) (p .0) (ready h) (e .before .before .before .loop-test .taken) (inside e) refl (e .if1 .left) (p .1 .1 .0)
+    plain-gives (known h) (h .loop .inv) (p .0) (ready h) (e .before .before .before .loop-test .taken) (inside e) refl (e .if1 .left)
+        (p .1 .1 .0)
     (c .before .if2 .left) (omega (arith, plain-size (known h) (h .loop .inv), plain-fits (known h) (h .loop .inv), c .if3 .left))
 
 after-requires-3 : tie.Need-after-requires-3 Inv-loop μ-loop
-after-requires-3 c κs = let h = c .before in (plain-few (known h) (h .loop .inv), plain-sums (known h) (h .loop .inv) (start h .pre .1 .1 .1 .1))
+after-requires-3 c κs = let h = c .before in
+    (plain-few (known h) (h .loop .inv), plain-sums (known h) (h .loop .inv) (start h .pre .1 .1 .1 .1))
 
 same-length-3 : tie.Need-same-length-3 Inv-loop μ-loop
 same-length-3 c = let h = c .before .before in plain-size (known h) (h .loop .inv)

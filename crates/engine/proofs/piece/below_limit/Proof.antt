@@ -1,6 +1,5 @@
 -- `piece::below_limit`: by what is left. Assumes nothing.
 use Prim.Native.Nat.{_-_, _<_, _≤_}
-use mathlib.Core.Path.{_≡_}
 use borrow.Author.Tests.{lt-ltb, le-ltb}
 use Rattle.reading.specs.Limit.{limit}
 use Rattle.engine.specs.Ran.{below}

@@ -25,14 +25,17 @@ below-limit-requires : tie.Need-below-limit-requires
 below-limit-requires c κs = omega arith
 
 slice-aggregate-tally : tie.Need-slice-aggregate-tally
-slice-aggregate-tally c = let m = c .before .before in let s = m .before .before .before .before .before .before in sym (below-length 0 (s .args .text .now) (m .below-limit .ensures))
+slice-aggregate-tally c = let m = c .before .before in let s = m .before .before .before .before .before .before in
+    sym (below-length 0 (s .args .text .now) (m .below-limit .ensures))
 
 tally-requires : tie.Need-tally-requires
 tally-requires c κs =
     let m = c .before .before in
     let t = m .before in
     let f = t .before .before .before in
-    (t .table .ensures, (tested t, start-ready (f .fresh .ensures) (omega (arith, below-fits 0 (f .before .before .args .text .now) (m .below-limit .ensures)))))
+    (t .table .ensures,
+        (tested t, start-ready (f .fresh .ensures)
+            (omega (arith, below-fits 0 (f .before .before .args .text .now) (m .below-limit .ensures)))))
 
 at-limit-requires : tie.Need-at-limit-requires
 at-limit-requires c κs = search needs

@@ -1,6 +1,6 @@
 -- `piece::fill`: a run into a buffer, made in stretches. Assumes nothing.
-use Prim.Native.Nat.{ℕ, _+_, _-_, _<_, _≤_, _^_}
-use mathlib.Core.Path.{_≡_, refl, sym, ap, _∙_, subst}
+use Prim.Native.Nat.{ℕ, _+_, _-_, _<_}
+use mathlib.Core.Path.{_≡_, refl, sym, _∙_, subst}
 use native.Mathlib.Omega.{arith}
 use mathlib.Core.List.{List, _++_}
 use lib.ListN.{length, take, drop}
@@ -30,17 +30,20 @@ known : (h : tie.At-loop Inv-loop μ-loop) → start h .args .alphabet < 6
 known h = allowed-alphabet _ _ (start h .pre .1 .0)
 
 so-far : (h : tie.At-loop Inv-loop μ-loop)
-    → let s = start h in Reached (s .args .alphabet) (s .args .options) (s .args .start) (s .args .piece .now) (s .args .out .now) (h .loop .out) (h .loop .s)
+    → let s = start h in Reached (s .args .alphabet) (s .args .options) (s .args .start) (s .args .piece .now) (s .args .out .now)
+    (h .loop .out) (h .loop .s)
 so-far h = h .loop .inv
 
 abbrev head : tie.Then1 Inv-loop μ-loop → tie.At-loop Inv-loop μ-loop
 head c = c .before .before
 
-going : (c : tie.Then1 Inv-loop μ-loop) → let h = head c in (h .loop .s .why ≡ W.All) × (h .loop .s .took < length (start h .args .piece .now))
+going : (c : tie.Then1 Inv-loop μ-loop) → let h = head c in
+    (h .loop .s .why ≡ W.All) × (h .loop .s .took < length (start h .args .piece .now))
 going c = goes-on _ _ _ (sym (c .before .goes-on .ensures) ∙ c .if1 .taken)
 
 filling : (c : tie.Then1 Inv-loop μ-loop)
-    → let h = head c in let s = start h in Filling (s .args .alphabet) (s .args .options) (s .args .piece .now) (s .args .start) (s .args .out .now) (h .loop .out) (h .loop .s .core) (h .loop .s .took) (h .loop .s .wrote)
+    → let h = head c in let s = start h in Filling (s .args .alphabet) (s .args .options) (s .args .piece .now) (s .args .start)
+    (s .args .out .now) (h .loop .out) (h .loop .s .core) (h .loop .s .took) (h .loop .s .wrote)
 filling c = so-far (head c) .goes (going c .0)
 
 abbrev test : tie.After-stretch Inv-loop μ-loop → tie.Then1 Inv-loop μ-loop
@@ -49,11 +52,13 @@ test y = y .before .before .before
 abbrev out : tie.After-stretch Inv-loop μ-loop → List ℕ
 out y =
     let l = head (test y) .loop in
-    take (l .s .wrote) (l .out) ++ (y .stretch .last .1 .1 .1 .1 .1 .0 ++ drop (length (l .out) - l .s .wrote) (drop (l .s .wrote) (l .out)))
+    take (l .s .wrote) (l .out) ++ (y .stretch .last .1 .1 .1 .1 .1 .0 ++ drop (length (l .out) - l .s .wrote)
+        (drop (l .s .wrote) (l .out)))
 
 -- after the stretch
 next : (y : tie.After-stretch Inv-loop μ-loop)
-    → let h = head (test y) in let s = start h in Reached (s .args .alphabet) (s .args .options) (s .args .start) (s .args .piece .now) (s .args .out .now) (out y) (thenAs (h .loop .s) (y .stretch .result))
+    → let h = head (test y) in let s = start h in Reached (s .args .alphabet) (s .args .options) (s .args .start) (s .args .piece .now)
+    (s .args .out .now) (out y) (thenAs (h .loop .s) (y .stretch .result))
 next y = let h = head (test y) in reached-then (known h) (so-far h) (going (test y) .0) (y .stretch .ensures .reached)
 
 -- ---- the needs
@@ -109,7 +114,8 @@ loop-again : tie.Need-loop-again Inv-loop μ-loop
 loop-again c =
     let y = c .before .before .before in
     let s = start (head (test y)) in
-    subst (Reached (s .args .alphabet) (s .args .options) (s .args .start) (s .args .piece .now) (s .args .out .now) (out y)) (sym (c .then .ensures)) (next y)
+    subst (Reached (s .args .alphabet) (s .args .options) (s .args .start) (s .args .piece .now) (s .args .out .now) (out y))
+        (sym (c .then .ensures)) (next y)
 
 same-length : tie.Need-same-length Inv-loop μ-loop
 same-length c = let h = c .before .before in reached-size (known h) (so-far h)

@@ -5,7 +5,8 @@ use native.Mathlib.Omega.{arith}
 use lib.ListN.{length, take}
 use borrow.Author.Needs.{needs}
 use Rattle.reading.specs.Options.{allowed}
-use Rattle.engine.proofs.AtLimit.{below-inside, below-length, below-fits, start-ready, fresh-is, fresh-filled, fresh-none, from-start, filled-start, unfit-start}
+use Rattle.engine.proofs.AtLimit.{below-inside, below-length, below-fits, start-ready, fresh-is, fresh-filled, fresh-none}
+use Rattle.engine.proofs.AtLimit.{from-start, filled-start, unfit-start}
 use Rattle.engine.proofs.piece.in_place.Statement.{statement}
 use Rattle.engine.proofs.piece.in_place.Tie as tie
 
@@ -25,17 +26,21 @@ below-limit-requires : tie.Need-below-limit-requires
 below-limit-requires c κs = omega arith
 
 slice-relend-prefix-settle : tie.Need-slice-relend-prefix-settle
-slice-relend-prefix-settle c = let m = c .before in let s = m .before .before .before .before .before .before in omega (arith, m .below-limit .ensures, below-inside 0 (length (s .args .buf .now)))
+slice-relend-prefix-settle c = let m = c .before in let s = m .before .before .before .before .before .before in
+    omega (arith, m .below-limit .ensures, below-inside 0 (length (s .args .buf .now)))
 
 slice-aggregate-settle : tie.Need-slice-aggregate-settle
-slice-aggregate-settle c = let m = c .before .before in let s = m .before .before .before .before .before .before in sym (below-length 0 (s .args .buf .now) (m .below-limit .ensures))
+slice-aggregate-settle c = let m = c .before .before in let s = m .before .before .before .before .before .before in
+    sym (below-length 0 (s .args .buf .now) (m .below-limit .ensures))
 
 settle-requires : tie.Need-settle-requires
 settle-requires c κs =
     let m = c .before .before in
     let t = m .before in
     let f = t .before .before .before in
-    (t .table .ensures, (tested t, start-ready (f .fresh .ensures) (omega (arith, below-fits 0 (f .before .before .args .buf .now) (m .below-limit .ensures)))))
+    (t .table .ensures,
+        (tested t, start-ready (f .fresh .ensures)
+            (omega (arith, below-fits 0 (f .before .before .args .buf .now) (m .below-limit .ensures)))))
 
 at-limit-requires : tie.Need-at-limit-requires
 at-limit-requires c κs = search needs
@@ -52,7 +57,8 @@ returns c =
     let s = f .before .before in
     let l = take (m .below-limit .result) (s .args .buf .now) in (
       fresh-is (s .args .alphabet) (s .args .options) (s .args .buf .now) (tested t) (m .below-limit .ensures)
-          (from-start (s .args .alphabet) (s .args .options) (length l) l (f .fresh .ensures) (y .settle .ensures .0)) (c .at-limit .ensures),
+          (from-start (s .args .alphabet) (s .args .options) (length l) l (f .fresh .ensures) (y .settle .ensures .0))
+              (c .at-limit .ensures),
       fresh-filled (s .args .alphabet) (s .args .options) (s .args .buf .now) (tested t) (m .below-limit .ensures)
           (filled-start (s .args .alphabet) (s .args .options) (length l) l l (f .fresh .ensures) (y .settle .ensures .1)),
     )
@@ -64,7 +70,8 @@ returns-2 : tie.Need-returns-2
 returns-2 c =
     let a = c .before .before in
     let s = a .before .before .before in
-    fresh-none (s .args .alphabet) (s .args .options) (s .args .buf .now) (sym (a .allowed .ensures) ∙ c .before .if1 .left) (c .unfit .ensures ∙ unfit-start (a .before .fresh .ensures))
+    fresh-none (s .args .alphabet) (s .args .options) (s .args .buf .now) (sym (a .allowed .ensures) ∙ c .before .if1 .left)
+        (c .unfit .ensures ∙ unfit-start (a .before .fresh .ensures))
 
 pub in-place-spec : {M : Type 1} → statement M
 in-place-spec =

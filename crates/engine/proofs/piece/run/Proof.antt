@@ -1,12 +1,12 @@
 -- `piece::run`: a ready state and what lies below the limit, or nothing. Assumes nothing.
 use mathlib.Core.Path.{sym, _∙_}
-use native.Mathlib.Omega.{arith}
 use borrow.Author.Needs.{needs}
 use Rattle.engine.proofs.AtLimit.{IsReady, is-ready, ready-for, below-length, below-fits, run-told, run-none}
 use Rattle.engine.proofs.piece.run.Statement.{statement}
 use Rattle.engine.proofs.piece.run.Tie as tie
 
-tested : (t : tie.After-table) → let s = t .before .before .before .before .before in IsReady (s .args .alphabet) (s .args .options) (s .args .start)
+tested : (t : tie.After-table) → let s = t .before .before .before .before .before in
+    IsReady (s .args .alphabet) (s .args .options) (s .args .start)
 tested t = is-ready _ _ _ (sym (t .before .before .ready .ensures) ∙ t .before .if1 .taken)
 
 ready-requires : tie.Need-ready-requires
@@ -19,14 +19,16 @@ below-limit-requires : tie.Need-below-limit-requires
 below-limit-requires c κs = tested c .taken
 
 slice-aggregate-fill : tie.Need-slice-aggregate-fill
-slice-aggregate-fill c = let s = c .before .before .before .before .before .before .before .before in sym (below-length (s .args .start .taken) (s .args .piece .now) (c .before .before .below-limit .ensures))
+slice-aggregate-fill c = let s = c .before .before .before .before .before .before .before .before in
+    sym (below-length (s .args .start .taken) (s .args .piece .now) (c .before .before .below-limit .ensures))
 
 fill-requires : tie.Need-fill-requires
 fill-requires c κs =
     let m = c .before .before .before in
     let t = m .before in
     let s = t .before .before .before .before .before in
-    (t .table .ensures, (tested t .choice, ready-for (tested t) (below-fits (s .args .start .taken) (s .args .piece .now) (m .below-limit .ensures))))
+    (t .table .ensures,
+        (tested t .choice, ready-for (tested t) (below-fits (s .args .start .taken) (s .args .piece .now) (m .below-limit .ensures))))
 
 at-limit-requires : tie.Need-at-limit-requires
 at-limit-requires c κs = search needs
@@ -40,7 +42,9 @@ returns c =
     let m = f .before .before .before .before in
     let t = m .before in
     let s = t .before .before .before .before .before in
-    run-told (s .args .alphabet) (s .args .options) (s .args .start) (s .args .piece .now) (s .args .out .now) (sym (t .before .before .ready .ensures) ∙ t .before .if1 .taken) (m .below-limit .ensures) (f .fill .ensures) (c .at-limit .ensures)
+    run-told (s .args .alphabet) (s .args .options) (s .args .start) (s .args .piece .now) (s .args .out .now)
+        (sym (t .before .before .ready .ensures) ∙ t .before .if1 .taken) (m .below-limit .ensures) (f .fill .ensures)
+            (c .at-limit .ensures)
 
 unfit-requires : tie.Need-unfit-requires
 unfit-requires c κs = search needs

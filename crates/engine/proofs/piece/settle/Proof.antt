@@ -11,7 +11,8 @@ use lib.ListN.{length, take, drop, length-take}
 use Rattle.engine.specs.Ran.{goesOn, thenAs, Ready}
 use Rattle.engine.specs.Loop.{Part}
 use Rattle.engine.proofs.Reaching.{goes-on, left, left-less}
-use Rattle.engine.proofs.Parts.{Settled, settled-begins, counted-sums, part-ready, counted-some, settled-then, settled-done, settled-size, settled-ends, settled-reads, settled-part, settled-whole, settled-fits}
+use Rattle.engine.proofs.Parts.{Settled, settled-begins, counted-sums, part-ready, counted-some, settled-then, settled-done}
+use Rattle.engine.proofs.Parts.{settled-size, settled-ends, settled-reads, settled-part, settled-whole, settled-fits}
 use Rattle.engine.proofs.piece.settle.Statement.{statement}
 use Rattle.engine.proofs.piece.settle.Tie as tie
 
@@ -36,7 +37,8 @@ so-far h = h .loop .inv
 size : (h : tie.At-loop Inv-loop μ-loop) → length (h .loop .buf) ≡ length (start h .args .buf .now)
 size h = settled-size (known h) (so-far h)
 
-going : (c : tie.Then1 Inv-loop μ-loop) → let h = c .before .before in (h .loop .s .why ≡ W.All) × (h .loop .s .took < length (h .loop .buf))
+going : (c : tie.Then1 Inv-loop μ-loop) → let h = c .before .before in
+    (h .loop .s .why ≡ W.All) × (h .loop .s .took < length (h .loop .buf))
 going c = goes-on _ _ _ (sym (c .before .goes-on .ensures) ∙ c .if1 .taken)
 
 -- the part that was put aside
@@ -49,14 +51,17 @@ head y = end y .before .before .before
 all : (y : tie.After-copied Inv-loop μ-loop) → head y .loop .s .why ≡ W.All
 all y = going (end y .before) .0
 
-ends : (y : tie.After-copied Inv-loop μ-loop) → Part (head y .loop .s .took) (end y .part-end .result) (length (start (head y) .args .buf .now))
+ends : (y : tie.After-copied Inv-loop μ-loop) → Part (head y .loop .s .took) (end y .part-end .result)
+    (length (start (head y) .args .buf .now))
 ends y = settled-ends (known (head y)) (so-far (head y)) (all y) (end y .part-end .ensures)
 
 is-part : (y : tie.After-copied Inv-loop μ-loop)
-    → let m = end y .part-end .result - head y .loop .s .took in take m (y .copied .result) ≡ take m (drop (head y .loop .s .took) (start (head y) .args .buf .now))
+    → let m = end y .part-end .result - head y .loop .s .took in
+    take m (y .copied .result) ≡ take m (drop (head y .loop .s .took) (start (head y) .args .buf .now))
 is-part y = settled-part (known (head y)) (so-far (head y)) (all y) (end y .part-end .ensures) (y .copied .result) (y .copied .ensures)
 
-whole : (y : tie.After-copied Inv-loop μ-loop) → let m = end y .part-end .result - head y .loop .s .took in length (take m (y .copied .result)) ≡ m
+whole : (y : tie.After-copied Inv-loop μ-loop) → let m = end y .part-end .result - head y .loop .s .took in
+    length (take m (y .copied .result)) ≡ m
 whole y = settled-whole (known (head y)) (so-far (head y)) (all y) (end y .part-end .ensures) (y .copied .result) (y .copied .ensures)
 
 -- after the part
@@ -64,8 +69,10 @@ abbrev from : tie.After-fill Inv-loop μ-loop → tie.After-copied Inv-loop μ-l
 from f = f .before .before .before
 
 fits : (f : tie.After-fill Inv-loop μ-loop)
-    → let y = from f in let l = head y .loop in length (take (end y .part-end .result - l .s .took) (y .copied .result)) ≤ length (take (length (l .buf) - l .s .wrote) (drop (l .s .wrote) (l .buf)))
-fits f = let y = from f in settled-fits (known (head y)) (so-far (head y)) (all y) (end y .part-end .ensures) (y .copied .result) (y .copied .ensures)
+    → let y = from f in let l = head y .loop in length (take (end y .part-end .result - l .s .took) (y .copied .result)) ≤ length
+    (take (length (l .buf) - l .s .wrote) (drop (l .s .wrote) (l .buf)))
+fits f = let y = from f in settled-fits (known (head y)) (so-far (head y)) (all y) (end y .part-end .ensures) (y .copied .result)
+    (y .copied .ensures)
 
 abbrev buf : tie.After-fill Inv-loop μ-loop → List ℕ
 buf f =
@@ -73,11 +80,13 @@ buf f =
     take (l .s .wrote) (l .buf) ++ (f .fill .last .1 .1 .1 .1 .1 .0 ++ drop (length (l .buf) - l .s .wrote) (drop (l .s .wrote) (l .buf)))
 
 next : (f : tie.After-fill Inv-loop μ-loop)
-    → let h = head (from f) in let s = start h in Settled (s .args .alphabet) (s .args .options) (s .args .buf .now) (s .args .start) (buf f) (thenAs (h .loop .s) (f .fill .result))
+    → let h = head (from f) in let s = start h in Settled (s .args .alphabet) (s .args .options) (s .args .buf .now) (s .args .start)
+    (buf f) (thenAs (h .loop .s) (f .fill .result))
 next f =
     let y = from f in
     let h = head y in
-    settled-then (h .loop .s) (known h) (so-far h .count .goes (all y)) (ends y) (is-part y) (fits f) (f .fill .ensures .0) (so-far h .front) (f .fill .ensures .1)
+    settled-then (h .loop .s) (known h) (so-far h .count .goes (all y)) (ends y) (is-part y) (fits f) (f .fill .ensures .0)
+        (so-far h .front) (f .fill .ensures .1)
 
 -- ---- the needs
 
@@ -128,7 +137,8 @@ fill-requires c κs =
     let y = c .before .before in
     let h = head y in
     let s = start h in
-    (s .pre .0, (s .pre .1 .0, subst (λ (p : List ℕ). Ready (s .args .alphabet) (h .loop .s .core) (length p)) (sym (is-part y)) (part-ready (so-far h .count .goes (all y)) (ends y) (s .pre .1 .1))))
+    (s .pre .0, (s .pre .1 .0, subst (λ (p : List ℕ). Ready (s .args .alphabet) (h .loop .s .core) (length p)) (sym (is-part y))
+        (part-ready (so-far h .count .goes (all y)) (ends y) (s .pre .1 .1))))
 
 then-requires : tie.Need-then-requires Inv-loop μ-loop
 then-requires c κs =
@@ -142,7 +152,8 @@ loop-less c =
     let f = c .before .before .before in
     let y = from f in
     let h = head y in
-    left-less (h .loop .s) (f .fill .result) (length (start h .args .buf .now)) (all y) (omega (arith, size h, going (end y .before) .1)) (c .then .ensures)
+    left-less (h .loop .s) (f .fill .result) (length (start h .args .buf .now)) (all y) (omega (arith, size h, going (end y .before) .1))
+        (c .then .ensures)
     (counted-some (h .loop .s) (known h) (so-far h .count .goes (all y)) (ends y) (is-part y) (fits f) (f .fill .ensures .0))
 
 loop-again : tie.Need-loop-again Inv-loop μ-loop
@@ -157,7 +168,8 @@ same-length c = size (c .before .before)
 returns : tie.Need-returns Inv-loop μ-loop
 returns c =
     let h = c .before .before in
-    settled-done (known h) (so-far h) (ap (goesOn (h .loop .s .why) (h .loop .s .took)) (sym (size h)) ∙ sym (c .before .goes-on .ensures) ∙ c .if1 .left)
+    settled-done (known h) (so-far h) (ap (goesOn (h .loop .s .why) (h .loop .s .took)) (sym (size h)) ∙ sym (c .before .goes-on .ensures)
+        ∙ c .if1 .left)
 
 pub settle-spec : {M : Type 1} → statement M
 settle-spec =

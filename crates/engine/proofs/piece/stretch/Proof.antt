@@ -20,7 +20,8 @@ known : (p : tie.After-pass) → start p .args .alphabet < 6
 known p = allowed-alphabet _ _ (start p .pre .1 .0)
 
 passed : (p : tie.After-pass)
-    → let s = start p in Filling (s .args .alphabet) (s .args .options) (s .args .piece .now) (s .args .start) (s .args .out .now) (p .pass .last .1 .1 .1 .1 .0) (p .pass .result .core) (p .pass .result .took) (p .pass .result .wrote)
+    → let s = start p in Filling (s .args .alphabet) (s .args .options) (s .args .piece .now) (s .args .start) (s .args .out .now)
+    (p .pass .last .1 .1 .1 .1 .0) (p .pass .result .core) (p .pass .result .took) (p .pass .result .wrote)
 passed p = p .pass .ensures .fills (start p .args .options) (start p .pre .1 .0)
 
 abbrev digits : tie.After-rare → tie.After-pass
@@ -49,7 +50,8 @@ put-requires : tie.Need-put-requires
 put-requires c κs =
     let r = c .before in
     let p = digits r in
-    (omega (arith, r .before .before .if1 .left, start p .pre .1 .1 .within, limit-small), omega (arith, same-size (known p) (passed p), passed p .loop .fits))
+    (omega (arith, r .before .before .if1 .left, start p .pre .1 .1 .within, limit-small), omega
+        (arith, same-size (known p) (passed p), passed p .loop .fits))
 
 same-length-2 : tie.Need-same-length-2
 same-length-2 c = search needs
@@ -59,7 +61,8 @@ returns-2 c =
     let y = c .before .before in
     let r = y .before .before in
     let p = digits r in
-    stretch-put (r .rare .result) (known p) (passed p) (r .before .before .if1 .left) (r .rare .ensures) refl (y .put .ensures .0) (y .put .ensures .1)
+    stretch-put (r .rare .result) (known p) (passed p) (r .before .before .if1 .left) (r .rare .ensures) refl (y .put .ensures .0)
+        (y .put .ensures .1)
 
 pub stretch-spec : {M : Type 1} → statement M
 stretch-spec =

@@ -1,6 +1,6 @@
 -- `piece::tally`: a run that counts, made in parts. Assumes nothing.
-use Prim.Native.Nat.{ℕ, _-_, _<_, _≤_}
-use mathlib.Core.Path.{_≡_, refl, sym, ap, _∙_, subst}
+use Prim.Native.Nat.{_-_, _<_, _≤_}
+use mathlib.Core.Path.{_≡_, refl, sym, _∙_, subst}
 use native.Mathlib.Omega.{arith}
 use borrow.Author.Needs.{needs}
 use Rattle.reading.proofs.LimitLaws.{limit-small}
@@ -9,7 +9,8 @@ use Rattle.engine.specs.declared.piece.Why.the-variants as W
 use lib.ListN.{length, take, drop}
 use Rattle.engine.specs.Ran.{thenAs}
 use Rattle.engine.proofs.Reaching.{goes-on, left, left-less}
-use Rattle.engine.proofs.Parts.{Counting, Counted, counted-begins, counted-sums, counted-done, part-size, part-ready, counted-then, counted-some}
+use Rattle.engine.proofs.Parts.{Counting, Counted, counted-begins, counted-sums, counted-done, part-size, part-ready, counted-then}
+use Rattle.engine.proofs.Parts.{counted-some}
 use Rattle.engine.proofs.piece.tally.Statement.{statement}
 use Rattle.engine.proofs.piece.tally.Tie as tie
 
@@ -27,28 +28,33 @@ start h = h .before .before
 known : (h : tie.At-loop Inv-loop μ-loop) → start h .args .alphabet < 6
 known h = allowed-alphabet _ _ (start h .pre .1 .0)
 
-so-far : (h : tie.At-loop Inv-loop μ-loop) → let s = start h in Counted (s .args .alphabet) (s .args .options) (s .args .text .now) (s .args .start) (h .loop .s)
+so-far : (h : tie.At-loop Inv-loop μ-loop) → let s = start h in Counted (s .args .alphabet) (s .args .options) (s .args .text .now)
+    (s .args .start) (h .loop .s)
 so-far h = h .loop .inv
 
 abbrev head : tie.After-part-end Inv-loop μ-loop → tie.At-loop Inv-loop μ-loop
 head e = e .before .before .before
 
-going : (c : tie.Then1 Inv-loop μ-loop) → let h = c .before .before in (h .loop .s .why ≡ W.All) × (h .loop .s .took < length (start h .args .text .now))
+going : (c : tie.Then1 Inv-loop μ-loop) → let h = c .before .before in
+    (h .loop .s .why ≡ W.All) × (h .loop .s .took < length (start h .args .text .now))
 going c = goes-on _ _ _ (sym (c .before .goes-on .ensures) ∙ c .if1 .taken)
 
 counting : (e : tie.After-part-end Inv-loop μ-loop)
-    → let h = head e in let s = start h in Counting (s .args .alphabet) (s .args .options) (s .args .text .now) (s .args .start) (h .loop .s .core) (h .loop .s .took) (h .loop .s .wrote) (so-far h .wrote)
+    → let h = head e in let s = start h in Counting (s .args .alphabet) (s .args .options) (s .args .text .now) (s .args .start)
+    (h .loop .s .core) (h .loop .s .took) (h .loop .s .wrote) (so-far h .wrote)
 counting e = so-far (head e) .goes (going (e .before) .0)
 
 abbrev end : tie.After-counted Inv-loop μ-loop → tie.After-part-end Inv-loop μ-loop
 end y = y .before .before
 
 fits : (y : tie.After-counted Inv-loop μ-loop)
-    → let e = end y in let i = head e .loop .s .took in length (take (e .part-end .result - i) (drop i (start (head e) .args .text .now))) ≤ 256
+    → let e = end y in let i = head e .loop .s .took in
+    length (take (e .part-end .result - i) (drop i (start (head e) .args .text .now))) ≤ 256
 fits y = let e = end y in omega (arith, part-size (counting e) (e .part-end .ensures), e .part-end .ensures .small)
 
 next : (y : tie.After-counted Inv-loop μ-loop)
-    → let h = head (end y) in let s = start h in Counted (s .args .alphabet) (s .args .options) (s .args .text .now) (s .args .start) (thenAs (h .loop .s) (y .counted .result))
+    → let h = head (end y) in let s = start h in Counted (s .args .alphabet) (s .args .options) (s .args .text .now) (s .args .start)
+    (thenAs (h .loop .s) (y .counted .result))
 next y =
     let e = end y in
     let h = head e in
