@@ -17,6 +17,7 @@ pub mod Shifts
 pub mod TableLaws
 pub mod RegroupLaws
 pub mod LooseCuts
+pub mod Loose
 pub mod Edges
 pub mod Parting
 pub mod StepLaws

@@ -52,6 +52,12 @@ pub symbol-is : (a c : ℕ) → a < 6 → c < 256 → symbolIn entries a c ≡ s
 unfolding symbolIn symbolOf isDigit
 symbol-is a c h l = rw (lt-ltb a 6 h, entry-is a c h l, value-tests a h c)
 
+-- an entry other than 255 is a digit's value
+pub entry-digit : (a c : ℕ) → a < 6 → c < 256 → (getD entries (a * 256 + c) 0 ≡ 255 → ⊥)
+    → symbolOf a c ≡ Digit (getD entries (a * 256 + c) 0)
+unfolding symbolOf isDigit
+entry-digit a c h l n = rw (entry-is a c h l, ne-eqb (value a c) 255 (λ e. n (entry-is a c h l ∙ e)))
+
 pub symbol-digit : (a c : ℕ) → isDigit a c ≡ true → symbolOf a c ≡ Digit (value a c)
 unfolding symbolOf
 symbol-digit a c d = rw d
@@ -92,7 +98,8 @@ pub neither-symbol : (a c : ℕ) → symbolOf a c ≡ Neither → (isDigit a c �
 unfolding symbolOf
 neither-symbol a c = go (isDigit a c) refl (isPad a c) refl
   where
-    go : (x : Bool) → isDigit a c ≡ x → (y : Bool) → isPad a c ≡ y → cond x (Digit (value a c)) (cond y Pad Neither) ≡ Neither → (isDigit a c ≡ false) × (isPad a c ≡ false)
+    go : (x : Bool) → isDigit a c ≡ x → (y : Bool) → isPad a c ≡ y → cond x (Digit (value a c)) (cond y Pad Neither) ≡ Neither
+        → (isDigit a c ≡ false) × (isPad a c ≡ false)
     go true d y p e = let z : _≡_ {A = ℕ} 0 1 = cc in absurd (omega arith)
     go false d true p e = let z : _≡_ {A = ℕ} 0 1 = cc in absurd (omega arith)
     go false d false p e = (d, p)

@@ -2,6 +2,9 @@ pub mod ByCases
 pub mod Steps
 pub mod Bytes
 pub mod Loops
+pub mod Plain
+pub mod Reaching
+pub mod Parts
 pub mod AtLimit
 pub mod FromFresh
 pub mod States

@@ -1,24 +1,20 @@
 -- What a digit, a pad and the end do, case by case, as the code finds it. Assumes nothing.
 use Prim.Native.Nat.{ℕ, _+_, _-_, _*_, _/_, _%_, _^_, _<_, _≤_}
-use mathlib.Core.Path.{_≡_, refl, sym, ap, _∙_}
-use mathlib.Core.Logic.{_⊎_, inl, inr}
-use mathlib.Core.Bool.{Bool, true, false, cond, not, _&&_, _||_}
-use native.Mathlib.Nat.{lt-of-lt-of-le, mul-le-mul-right}
+use mathlib.Core.Path.{_≡_, refl}
+use mathlib.Core.Bool.{Bool, true, false}
+use native.Mathlib.Nat.{mul-le-mul-right}
 use native.Mathlib.Omega.{arith}
-use lib.Dec.{ltb, eqb}
-use borrow.Author.Tests.{lt-ltb, le-ltb, ltb-true, ltb-false, eq-eqb, ne-eqb}
-use Rattle.alphabet.specs.Alphabet.{bits, group, tail}
+use lib.Dec.{ltb}
+use borrow.Author.Tests.{le-ltb, ltb-true, ltb-false}
+use Rattle.alphabet.specs.Alphabet.{bits}
 use Rattle.alphabet.specs.Regroup.{fed}
-use Rattle.alphabet.specs.declared.regroup.Fed.{Fed}
 use Rattle.alphabet.specs.declared.regroup.Fed.the-variants.{Held, Byte}
 use Rattle.alphabet.proofs.AlphabetLaws.{bits-high}
 use Rattle.alphabet.proofs.RegroupLaws.{fed-held, fed-byte}
-use Rattle.reading.specs.Options.{nopad, anySpare}
-use Rattle.reading.specs.Limit.{limit}
-use Rattle.reading.specs.Reader.{State, takes, gives, refuses, heldBits, wants, onDigit, onPad, ending}
+use Rattle.reading.specs.Reader.{takes, gives, heldBits, onDigit}
 use Rattle.reading.proofs.LimitLaws.{limit-small}
 use Rattle.engine.specs.declared.rule.Core.{Core}
-use Rattle.engine.specs.Meaning.{stateOf, Fit, unpaddedEnd}
+use Rattle.engine.specs.Meaning.{stateOf, Fit}
 
 module _ (a : ℕ) (h : a < 6) (k : Core) (f : Fit a k) where
   -- the sums of a state fit their types
@@ -48,11 +44,13 @@ module _ (a : ℕ) (h : a < 6) (k : Core) (f : Fit a k) where
         go : (t : Bool) → ltb (heldBits a (stateOf k) + bits a) 8 ≡ t
             → takes (record { digits = k .digits + 1; held = x; pads = 0; taken = k .taken + 1 }) ≡ onDigit a (stateOf k) v
         go true q =
-            let z : x ≡ k .held * 2 ^ bits a + v = cc (fed-held (bits a) (heldBits a (stateOf k)) (omega (arith, bits-high a h)) few (f .held) l (ltb-true _ _ q)) in
+            let z : x ≡ k .held * 2 ^ bits a + v = cc (fed-held (bits a) (heldBits a (stateOf k)) (omega (arith, bits-high a h)) few
+                (f .held) l (ltb-true _ _ q)) in
             rw (z, le-ltb 0 (k .pads) p, q)
         go false q =
             let n : ℕ = heldBits a (stateOf k) + bits a - 8 in
-            let z : _≡_ {A = ℕ} 0 1 = cc (fed-byte (bits a) (heldBits a (stateOf k)) (omega (arith, bits-high a h)) few (f .held) l n (omega (arith, ltb-false (heldBits a (stateOf k) + bits a) 8 q))) in
+            let z : _≡_ {A = ℕ} 0 1 = cc (fed-byte (bits a) (heldBits a (stateOf k)) (omega (arith, bits-high a h)) few (f .held) l n
+                (omega (arith, ltb-false (heldBits a (stateOf k) + bits a) 8 q))) in
             absurd (omega arith)
 
     -- a digit that completes a byte
@@ -64,13 +62,13 @@ module _ (a : ℕ) (h : a < 6) (k : Core) (f : Fit a k) where
         go : (t : Bool) → ltb (heldBits a (stateOf k) + bits a) 8 ≡ t
             → gives y (record { digits = k .digits + 1; held = x; pads = 0; taken = k .taken + 1 }) ≡ onDigit a (stateOf k) v
         go true q =
-            let z : _≡_ {A = ℕ} 0 1 = cc (fed-held (bits a) (heldBits a (stateOf k)) (omega (arith, bits-high a h)) few (f .held) l (ltb-true _ _ q)) in
+            let z : _≡_ {A = ℕ} 0 1 = cc (fed-held (bits a) (heldBits a (stateOf k)) (omega (arith, bits-high a h)) few (f .held) l
+                (ltb-true _ _ q)) in
             absurd (omega arith)
         go false q =
             let n : ℕ = heldBits a (stateOf k) + bits a - 8 in
-            let s = fed-byte (bits a) (heldBits a (stateOf k)) (omega (arith, bits-high a h)) few (f .held) l n (omega (arith, ltb-false (heldBits a (stateOf k) + bits a) 8 q)) in
+            let s = fed-byte (bits a) (heldBits a (stateOf k)) (omega (arith, bits-high a h)) few (f .held) l n
+                (omega (arith, ltb-false (heldBits a (stateOf k) + bits a) 8 q)) in
             let z : y ≡ (k .held * 2 ^ bits a + v) / 2 ^ n = cc in
             let w : x ≡ (k .held * 2 ^ bits a + v) % 2 ^ n = cc in
             rw (z, w, le-ltb 0 (k .pads) p, q)
-
--- ---- a byte that is a digit as it stands

@@ -1,10 +1,10 @@
 -- What a run over a piece gives, in the engine's types: the definitions of `reading` (Piece) with the answer's shape, and the buffer.
 -- Assumes nothing.
-use Prim.Native.Nat.{ℕ, _+_, _*_, _%_, _≤_, _^_}
-use mathlib.Core.Bool.{Bool, cond, _&&_}
-use mathlib.Core.List.{List, [], _∷_, _++_}
+use Prim.Native.Nat.{ℕ, _+_, _-_, _*_, _%_, _≤_, _^_}
+use mathlib.Core.Bool.{Bool, false, cond, _&&_}
+use mathlib.Core.List.{List, [], _∷_}
 use lib.Dec.{leb, ltb}
-use lib.ListN.{length, drop, getD}
+use lib.ListN.{length, getD}
 use Rattle.alphabet.specs.Alphabet.{bits}
 use Rattle.reading.specs.Options.{allowed}
 use Rattle.reading.specs.Limit.{limit}
@@ -27,23 +27,33 @@ coreOf s = record { digits = s .digits; held = s .held; pads = s .pads; taken = 
 unfoldable pub causeOf : ℕ → Cause
 causeOf k = getD (C.TooLong ∷ C.TooLong ∷ C.TooLong ∷ C.TooLong ∷ C.Foreign ∷ C.PadPlace ∷ C.Spare ∷ C.AfterPad ∷ C.Short ∷ []) k C.TooLong
 
-unfoldable pub whyAtLimit : Why → Why
-whyAtLimit W.All = W.Refused C.TooLong
-whyAtLimit (W.Refused c) = W.Refused c
-whyAtLimit W.Full = W.Full
-whyAtLimit W.Unfit = W.Unfit
-
 unfoldable pub whyAs : P.Why → Why
 whyAs P.all = W.All
 whyAs (P.refused k) = W.Refused (causeOf k)
 whyAs P.full = W.Full
 
+-- a run that stopped for w after so many bytes of so many has bytes left to take
+unfoldable pub goesOn : Why → ℕ → ℕ → Bool
+goesOn W.All took len = ltb took len
+goesOn (W.Refused c) took len = false
+goesOn W.Full took len = false
+goesOn W.Unfit took len = false
+
+-- a run, and one more after it
+abbrev pub thenAs : Ran → Ran → Ran
+thenAs q r = record { core = r .core; why = r .why; took = q .took + r .took; wrote = q .wrote + r .wrote }
+
 abbrev pub ranAs : P.Ran → Ran
 ranAs r = record { core = coreOf (r .state); why = whyAs (r .why); took = r .took; wrote = length (r .wrote) }
 
+-- how many of so many bytes lie below the limit
+unfoldable pub below : ℕ → ℕ → ℕ
+below taken len = cond (ltb (limit - taken) len) (limit - taken) len
+
 -- (a): all of what lies below the limit was taken, and a byte lies at it
-abbrev pub atLimit : Ran → Ran
-atLimit r = record { core = r .core; why = whyAtLimit (r .why); took = r .took; wrote = r .wrote }
+unfoldable pub limited : Ran → ℕ → Ran
+limited r len =
+    cond (goesOn (r .why) (r .took) len) (record { core = r .core; why = W.Refused C.TooLong; took = r .took; wrote = r .wrote }) r
 
 -- a state that text gives, and m bytes more are within the limit
 pub record Ready (a : ℕ) (k : Core) (m : ℕ) : Type 0 where

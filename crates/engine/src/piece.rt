@@ -1,17 +1,17 @@
 // The loops over a piece: into a second buffer, in place, and counting alone. Each takes the table once, and asks `on_digit` for a byte that
 // is a digit as it stands and `rare` for any other, so that the common byte costs no call.
 use crate::choice::allowed;
+use crate::digits::Passed;
+use crate::digits::pass;
 use crate::rule::Cause;
 use crate::rule::Core;
 use crate::rule::Took;
-use crate::rule::on_digit;
 use crate::rule::rare;
-use alphabet::table::Symbol;
 pub use reading::limit;
-ghost use Prim.Native.Nat.{_<_, _≤_};
+ghost use Prim.Native.Nat.{_+_, _<_, _≤_, _^_};
 ghost use mathlib.Core.Path.{_≡_};
 ghost use mathlib.Core.Bool.{true};
-ghost use lib.ListN.{length};
+ghost use lib.ListN.{length, take};
 ghost use Rattle.alphabet.specs.Table.{entries};
 ghost use Rattle.reading.specs.Options as Options;
 ghost use Rattle.reading.specs.Limit as Limit;
@@ -20,6 +20,7 @@ ghost use Rattle.engine.specs.Meaning.{stateOf};
 ghost use Rattle.engine.specs.Ran as Spec;
 ghost use Rattle.reading.specs.Buffer.{filled};
 ghost use Rattle.engine.specs.Ran.{Ready, ranAs};
+ghost use Rattle.engine.specs.Loop.{Part, Stretch, putAs, putIn};
 
 // Why a run over a piece stopped. Unfit: the choice or the state is none that reading starts from, and nothing was done.
 pub enum Why {
@@ -49,6 +50,108 @@ pub fn fresh() -> Core
     }
 }
 
+// A run, and one more after it: the counts are added.
+fn then(first: Ran, next: Ran) -> Ran
+    requires { ⌜ first .took + next .took < 2 ^ 64 ⌝ }
+    requires { ⌜ first .wrote + next .wrote < 2 ^ 64 ⌝ }
+    ensures { λ r. ⌜ r ≡ Spec.thenAs first next ⌝ }
+{
+    let core = next.core;
+    let why = next.why;
+    Ran {
+        core,
+        why,
+        took: first.took + next.took,
+        wrote: first.wrote + next.wrote,
+    }
+}
+
+// Whether a run that came so far has bytes left to take.
+fn goes_on(r: Ran, len: usize) -> bool
+    ensures { λ x. ⌜ x ≡ Spec.goesOn (r .why) (r .took) len ⌝ }
+{
+    let took = r.took;
+    let why = r.why;
+    match why {
+        Why::All => took < len,
+        Why::Refused(_) => false,
+        Why::Full => false,
+        Why::Unfit => false,
+    }
+}
+
+// What a byte does after digits, with the room for a byte that it gives.
+fn put(p: Passed, byte: Took, out: &mut [u8]) -> Ran
+    requires { ⌜ p .took + 1 < 2 ^ 64 ⌝ }
+    requires { ⌜ p .wrote ≤ length (now out) ⌝ }
+    ensures { λ r. ⌜ r ≡ putAs p byte (length (now (out .entry))) ⌝ }
+    ensures { λ r. ⌜ now (out .exit) ≡ putIn p byte (now (out .entry)) ⌝ }
+{
+    let k = p.core;
+    let i = p.took;
+    let n = p.wrote;
+    match byte {
+        Took::Takes(c) => Ran {
+            core: c,
+            why: Why::All,
+            took: i + 1,
+            wrote: n,
+        },
+        Took::Gives(x, c) => {
+            if n < out.len() {
+                out[n] = x; // n is below the room
+                return Ran {
+                    core: c,
+                    why: Why::All,
+                    took: i + 1,
+                    wrote: n + 1,
+                };
+            }
+            Ran {
+                core: k,
+                why: Why::Full,
+                took: i,
+                wrote: n,
+            }
+        }
+        Took::Refuses(e) => Ran {
+            core: k,
+            why: Why::Refused(e),
+            took: i,
+            wrote: n,
+        },
+    }
+}
+
+// Digits as they stand, and the byte after them, which `rare` tells of.
+fn stretch(
+    t: &[u8; 1536],
+    alphabet: usize,
+    options: usize,
+    start: Core,
+    piece: &[u8],
+    out: &mut [u8],
+) -> Ran
+    requires { ⌜ now t ≡ entries ⌝ }
+    requires { ⌜ Options.allowed alphabet options ≡ true ⌝ }
+    requires { ⌜ Ready alphabet start (length (now piece)) ⌝ }
+    ensures { λ r. ⌜ Stretch alphabet options start (now (piece .entry)) (now (out .entry)) (now (out .exit)) r ⌝ }
+{
+    let p = pass(t, alphabet, start, piece, out);
+    let k = p.core;
+    let i = p.took;
+    if piece.len() <= i {
+        return Ran {
+            core: k,
+            why: Why::All,
+            took: i,
+            wrote: p.wrote,
+        };
+    }
+    let byte = rare(t, alphabet, options, k, piece[i]);
+    put(p, byte, out)
+}
+
 fn fill(
     t: &[u8; 1536],
     alphabet: usize,
@@ -63,77 +166,41 @@ fn fill(
     ensures { λ r. ⌜ r ≡ ranAs (Piece.run alphabet options (now (piece .entry)) (stateOf start) (length (now (out .entry)))) ⌝ }
     ensures { λ r. ⌜ now (out .exit) ≡ filled (Piece.run alphabet options (now (piece .entry)) (stateOf start) (length (now (out .entry))) .wrote) (now (out .entry)) ⌝ }
 {
-    let b = alphabet::sizes::bits(alphabet);
-    let mut k = start;
-    let mut i: usize = 0;
-    let mut n: usize = 0;
-    while i < piece.len() {
-        let byte = piece[i];
-        match alphabet::table::lookup(t, alphabet, byte) {
-            Symbol::Digit(v) => match on_digit(alphabet, b, k, v) {
-                Took::Takes(c) => {
-                    k = c;
-                    i += 1;
-                }
-                Took::Gives(x, c) => {
-                    if n == out.len() {
-                        return Ran {
-                            core: k,
-                            why: Why::Full,
-                            took: i,
-                            wrote: n,
-                        };
-                    }
-                    out[n] = x; // n is below the room
-                    n += 1;
-                    k = c;
-                    i += 1;
-                }
-                Took::Refuses(e) => {
-                    return Ran {
-                        core: k,
-                        why: Why::Refused(e),
-                        took: i,
-                        wrote: n,
-                    };
-                }
-            },
-            _ => match rare(t, alphabet, options, k, byte) {
-                Took::Takes(c) => {
-                    k = c;
-                    i += 1;
-                }
-                Took::Gives(x, c) => {
-                    if n == out.len() {
-                        return Ran {
-                            core: k,
-                            why: Why::Full,
-                            took: i,
-                            wrote: n,
-                        };
-                    }
-                    out[n] = x;
-                    n += 1;
-                    k = c;
-                    i += 1;
-                }
-                Took::Refuses(e) => {
-                    return Ran {
-                        core: k,
-                        why: Why::Refused(e),
-                        took: i,
-                        wrote: n,
-                    };
-                }
-            },
-        }
-    }
-    Ran {
-        core: k,
+    let mut s = Ran {
+        core: start,
         why: Why::All,
-        took: i,
-        wrote: n,
+        took: 0,
+        wrote: 0,
+    };
+    while goes_on(s, piece.len()) {
+        let i = s.took;
+        let n = s.wrote;
+        let r = stretch(t, alphabet, options, s.core, &piece[i..], &mut out[n..]);
+        s = then(s, r);
     }
+    s
+}
+
+// The end of the part that begins at i and has at most 256 bytes.
+fn part_end(i: usize, len: usize) -> usize
+    requires { ⌜ i < len ⌝ }
+    ensures { λ e. ⌜ Part i e len ⌝ }
+{
+    if len - i <= 256 {
+        return len;
+    }
+    i + 256
+}
+
+// A part, counted alone: what it gives is put aside.
+fn counted(t: &[u8; 1536], alphabet: usize, options: usize, start: Core, part: &[u8]) -> Ran
+    requires { ⌜ now t ≡ entries ⌝ }
+    requires { ⌜ Options.allowed alphabet options ≡ true ⌝ }
+    requires { ⌜ Ready alphabet start (length (now part)) ⌝ }
+    ensures { λ r. ⌜ r ≡ ranAs (Piece.run alphabet options (now (part .entry)) (stateOf start) 256) ⌝ }
+{
+    let mut aside: [u8; 256] = [0; 256];
+    fill(t, alphabet, options, start, part, &mut aside)
 }
 
 // Counting alone: room never lacks, since a byte needs more than one byte of text.
@@ -143,62 +210,36 @@ fn tally(t: &[u8; 1536], alphabet: usize, options: usize, start: Core, text: &[u
     requires { ⌜ Ready alphabet start (length (now text)) ⌝ }
     ensures { λ r. ⌜ r ≡ ranAs (Piece.run alphabet options (now (text .entry)) (stateOf start) (length (now (text .entry)))) ⌝ }
 {
-    let b = alphabet::sizes::bits(alphabet);
-    let mut k = start;
-    let mut i: usize = 0;
-    let mut n: usize = 0;
-    while i < text.len() {
-        let byte = text[i];
-        match alphabet::table::lookup(t, alphabet, byte) {
-            Symbol::Digit(v) => match on_digit(alphabet, b, k, v) {
-                Took::Takes(c) => {
-                    k = c;
-                    i += 1;
-                }
-                Took::Gives(_, c) => {
-                    n += 1;
-                    k = c;
-                    i += 1;
-                }
-                Took::Refuses(e) => {
-                    return Ran {
-                        core: k,
-                        why: Why::Refused(e),
-                        took: i,
-                        wrote: n,
-                    };
-                }
-            },
-            _ => match rare(t, alphabet, options, k, byte) {
-                Took::Takes(c) => {
-                    k = c;
-                    i += 1;
-                }
-                Took::Gives(_, c) => {
-                    n += 1;
-                    k = c;
-                    i += 1;
-                }
-                Took::Refuses(e) => {
-                    return Ran {
-                        core: k,
-                        why: Why::Refused(e),
-                        took: i,
-                        wrote: n,
-                    };
-                }
-            },
-        }
-    }
-    Ran {
-        core: k,
+    let mut s = Ran {
+        core: start,
         why: Why::All,
-        took: i,
-        wrote: n,
+        took: 0,
+        wrote: 0,
+    };
+    while goes_on(s, text.len()) {
+        let i = s.took;
+        let e = part_end(i, text.len());
+        let r = counted(t, alphabet, options, s.core, &text[i..e]);
+        s = then(s, r);
     }
+    s
 }
 
-// In place: the index that is written never passes the one that is read.
+// The bytes of a part, put aside.
+fn copied(part: &[u8]) -> [u8; 256]
+    requires { ⌜ length (now part) ≤ 256 ⌝ }
+    ensures { λ r. ⌜ take (length (now (part .entry))) r ≡ now (part .entry) ⌝ }
+{
+    let mut aside: [u8; 256] = [0; 256];
+    let mut i: usize = 0;
+    while i < part.len() {
+        aside[i] = part[i];
+        i += 1;
+    }
+    aside
+}
+
+// In place: a part is put aside, and what it gives is stored over bytes that were read.
 fn settle(t: &[u8; 1536], alphabet: usize, options: usize, start: Core, buf: &mut [u8]) -> Ran
     requires { ⌜ now t ≡ entries ⌝ }
     requires { ⌜ Options.allowed alphabet options ≡ true ⌝ }
@@ -206,61 +247,22 @@ fn settle(t: &[u8; 1536], alphabet: usize, options: usize, start: Core, buf: &mu
     ensures { λ r. ⌜ r ≡ ranAs (Piece.run alphabet options (now (buf .entry)) (stateOf start) (length (now (buf .entry)))) ⌝ }
     ensures { λ r. ⌜ now (buf .exit) ≡ filled (Piece.run alphabet options (now (buf .entry)) (stateOf start) (length (now (buf .entry))) .wrote) (now (buf .entry)) ⌝ }
 {
-    let b = alphabet::sizes::bits(alphabet);
-    let mut k = start;
-    let mut i: usize = 0;
-    let mut n: usize = 0;
-    while i < buf.len() {
-        let byte = buf[i];
-        match alphabet::table::lookup(t, alphabet, byte) {
-            Symbol::Digit(v) => match on_digit(alphabet, b, k, v) {
-                Took::Takes(c) => {
-                    k = c;
-                    i += 1;
-                }
-                Took::Gives(x, c) => {
-                    buf[n] = x; // n is never past i
-                    n += 1;
-                    k = c;
-                    i += 1;
-                }
-                Took::Refuses(e) => {
-                    return Ran {
-                        core: k,
-                        why: Why::Refused(e),
-                        took: i,
-                        wrote: n,
-                    };
-                }
-            },
-            _ => match rare(t, alphabet, options, k, byte) {
-                Took::Takes(c) => {
-                    k = c;
-                    i += 1;
-                }
-                Took::Gives(x, c) => {
-                    buf[n] = x;
-                    n += 1;
-                    k = c;
-                    i += 1;
-                }
-                Took::Refuses(e) => {
-                    return Ran {
-                        core: k,
-                        why: Why::Refused(e),
-                        took: i,
-                        wrote: n,
-                    };
-                }
-            },
-        }
-    }
-    Ran {
-        core: k,
+    let mut s = Ran {
+        core: start,
         why: Why::All,
-        took: i,
-        wrote: n,
+        took: 0,
+        wrote: 0,
+    };
+    while goes_on(s, buf.len()) {
+        let i = s.took;
+        let n = s.wrote;
+        let e = part_end(i, buf.len());
+        let m = e - i;
+        let aside = copied(&buf[i..e]);
+        let r = fill(t, alphabet, options, s.core, &aside[..m], &mut buf[n..]); // n is never past i
+        s = then(s, r);
     }
+    s
 }
 
 // Whether the held bits are as many as the digits leave.
@@ -295,40 +297,32 @@ pub fn ready(alphabet: usize, options: usize, k: Core) -> bool
     false
 }
 
-// (a): the byte at the limit is refused, where all before it was taken.
-fn at_limit(r: Ran) -> Ran
-    ensures { λ x. ⌜ x ≡ Spec.atLimit r ⌝ }
+// How many of so many bytes lie below the limit.
+fn below_limit(taken: usize, len: usize) -> usize
+    requires { ⌜ taken ≤ Limit.limit ⌝ }
+    ensures { λ m. ⌜ m ≡ Spec.below taken len ⌝ }
 {
-    let core = r.core;
-    let why = r.why;
-    let took = r.took;
-    let wrote = r.wrote;
-    match why {
-        Why::All => Ran {
+    let left = limit() - taken;
+    if left < len {
+        return left;
+    }
+    len
+}
+
+// (a): the byte at the limit is refused, where all before it was taken and the piece goes on.
+fn at_limit(r: Ran, len: usize) -> Ran
+    ensures { λ x. ⌜ x ≡ Spec.limited r len ⌝ }
+{
+    if goes_on(r, len) {
+        let core = r.core;
+        return Ran {
             core,
             why: Why::Refused(Cause::TooLong),
-            took,
-            wrote,
-        },
-        Why::Refused(cause) => Ran {
-            core,
-            why: Why::Refused(cause),
-            took,
-            wrote,
-        },
-        Why::Full => Ran {
-            core,
-            why: Why::Full,
-            took,
-            wrote,
-        },
-        Why::Unfit => Ran {
-            core,
-            why: Why::Unfit,
-            took,
-            wrote,
-        },
+            took: r.took,
+            wrote: r.wrote,
+        };
     }
+    r
 }
 
 fn unfit(core: Core) -> Ran
@@ -349,14 +343,9 @@ pub fn run(alphabet: usize, options: usize, start: Core, piece: &[u8], out: &mut
 {
     if ready(alphabet, options, start) {
         let t = alphabet::table::table();
-        let taken = start.taken;
-        let left = limit() - taken;
-        if left < piece.len() {
-            let front = &piece[..left];
-            let r = fill(&t, alphabet, options, start, front, out);
-            return at_limit(r);
-        }
-        return fill(&t, alphabet, options, start, piece, out);
+        let m = below_limit(start.taken, piece.len());
+        let r = fill(&t, alphabet, options, start, &piece[..m], out);
+        return at_limit(r, piece.len());
     }
     unfit(start)
 }
@@ -368,13 +357,9 @@ pub fn count(alphabet: usize, options: usize, text: &[u8]) -> Ran
     let start = fresh();
     if allowed(alphabet, options) {
         let t = alphabet::table::table();
-        let most = limit();
-        if most < text.len() {
-            let front = &text[..most];
-            let r = tally(&t, alphabet, options, start, front);
-            return at_limit(r);
-        }
-        return tally(&t, alphabet, options, start, text);
+        let m = below_limit(0, text.len());
+        let r = tally(&t, alphabet, options, start, &text[..m]);
+        return at_limit(r, text.len());
     }
     unfit(start)
 }
@@ -387,12 +372,10 @@ pub fn in_place(alphabet: usize, options: usize, buf: &mut [u8]) -> Ran
     let start = fresh();
     if allowed(alphabet, options) {
         let t = alphabet::table::table();
-        let most = limit();
-        if most < buf.len() {
-            let r = settle(&t, alphabet, options, start, &mut buf[..most]);
-            return at_limit(r);
-        }
-        return settle(&t, alphabet, options, start, buf);
+        let len = buf.len();
+        let m = below_limit(0, len);
+        let r = settle(&t, alphabet, options, start, &mut buf[..m]);
+        return at_limit(r, len);
     }
     unfit(start)
 }

@@ -25,6 +25,7 @@ pub mod StepLaws
 pub mod RunSteps
 pub mod StepCases
 pub mod RunRoom
+pub mod RunSound
 pub mod Refusals
 pub mod Building
 pub mod Taking

@@ -1,15 +1,15 @@
 -- What a byte keeps of a state: the held bits fit their number, digits and pads are at most the bytes taken, and one byte is taken.
 -- Assumes nothing.
-use Prim.Native.Nat.{ℕ, _+_, _-_, _*_, _/_, _%_, _^_, _<_, _≤_}
+use Prim.Native.Nat.{ℕ, _+_, _-_, _*_, _%_, _^_, _<_, _≤_}
 use mathlib.Core.Path.{_≡_, refl, sym, ap, _∙_, subst}
 use mathlib.Core.Bool.{Bool, true, false, cond, not, _&&_}
-use native.Mathlib.Nat.{mod-lt, lt-of-lt-of-le, mul-add, mul-one}
+use native.Mathlib.Nat.{mod-lt, mul-add, mul-one}
 use native.Mathlib.Omega.{arith}
 use lib.Arith.{digits-lt}
 use lib.Dec.{eqb, ltb}
 use lib.Pow.{pow-add, pow-pos, shr-lt}
 use borrow.Author.Tests.{ltb-true, ltb-false}
-use Rattle.alphabet.specs.Alphabet.{bits, value, isDigit, isPad}
+use Rattle.alphabet.specs.Alphabet.{bits, isDigit, isPad}
 use Rattle.alphabet.proofs.AlphabetLaws.{bits-high}
 use Rattle.alphabet.proofs.Symbols.{is-digit}
 use Rattle.reading.specs.Options.{anySpare}
@@ -42,11 +42,11 @@ module _ (a : ℕ) (h : a < 6) (s : State) (f : Sound a s) where
   bits-then : bits a * (s .digits + 1) ≡ bits a * s .digits + bits a
   bits-then = mul-add (bits a) (s .digits) 1 ∙ ap (λ (k : ℕ). bits a * s .digits + k) (mul-one (bits a))
 
-  held-then : heldBits a s + bits a < 8 → bits a * (s .digits + 1) % 8 ≡ heldBits a s + bits a
+  pub held-then : heldBits a s + bits a < 8 → bits a * (s .digits + 1) % 8 ≡ heldBits a s + bits a
   unfolding heldBits
   held-then l = omega (arith, bits-then)
 
-  left-then : 8 ≤ heldBits a s + bits a → bits a * (s .digits + 1) % 8 ≡ heldBits a s + bits a - 8
+  pub left-then : 8 ≤ heldBits a s + bits a → bits a * (s .digits + 1) % 8 ≡ heldBits a s + bits a - 8
   unfolding heldBits
   left-then l = omega (arith, bits-then, bits-high a h)
 
@@ -64,7 +64,8 @@ module _ (a : ℕ) (h : a < 6) (s : State) (f : Sound a s) where
       let g : 8 ≤ heldBits a s + bits a = ltb-false _ _ m in
       let e : 8 + n ≡ heldBits a s + bits a = omega arith in (
         record {
-          sound = record { held = rw (left-then g) (mod-lt (s .held * 2 ^ bits a + v) (pow-pos n)); digits = omega (arith, f .digits); pads = omega arith };
+          sound = record { held = rw (left-then g) (mod-lt (s .held * 2 ^ bits a + v) (pow-pos n)); digits = omega
+              (arith, f .digits); pads = omega arith };
           one = refl;
         },
         shr-lt 8 n (subst (λ (k : ℕ). s .held * 2 ^ bits a + v < 2 ^ k) (sym e) (joined l)),
@@ -74,7 +75,8 @@ module _ (a : ℕ) (h : a < 6) (s : State) (f : Sound a s) where
   unfolding onPad heldBits
   keeps-pad opts =
       either (Keeps a s) (ltb 0 (s .pads)) (λ e. either (Keeps a s) (eqb (s .pads) (wants a s)) (λ e. tt) (λ e. more))
-      (λ e. either (Keeps a s) (eqb (wants a s) 0) (λ e. tt) (λ e. either (Keeps a s) (not (eqb (s .held) 0) && not (anySpare opts)) (λ e. tt) (λ e. more)))
+      (λ e. either (Keeps a s) (eqb (wants a s) 0) (λ e. tt) (λ e. either (Keeps a s) (not (eqb (s .held) 0) && not (anySpare opts))
+          (λ e. tt) (λ e. more)))
     where
       more : Next a s (record { digits = s .digits; held = s .held; pads = s .pads + 1; taken = s .taken + 1 })
       more = record { sound = record { held = f .held; digits = omega (arith, f .digits); pads = omega (arith, f .pads) }; one = refl }

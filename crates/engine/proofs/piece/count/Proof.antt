@@ -1,11 +1,16 @@
--- `piece::count`: the whole text, or what lies below the limit. Assumes nothing.
-use mathlib.Core.Path.{_≡_, refl, sym, ap, _∙_}
+-- `piece::count`: what lies below the limit, counted. Assumes nothing.
+use mathlib.Core.Path.{_≡_, sym, _∙_}
+use mathlib.Core.Bool.{true}
 use native.Mathlib.Omega.{arith}
-use lib.ListN.{length, take, length-take}
-use Rattle.engine.proofs.AtLimit.{front-length, most-within, start-ready, fresh-none, fresh-whole-is, fresh-cut-is, from-start, unfit-start}
+use lib.ListN.{length, take}
 use borrow.Author.Needs.{needs}
+use Rattle.reading.specs.Options.{allowed}
+use Rattle.engine.proofs.AtLimit.{below-length, below-fits, start-ready, fresh-is, fresh-none, from-start, unfit-start}
 use Rattle.engine.proofs.piece.count.Statement.{statement}
 use Rattle.engine.proofs.piece.count.Tie as tie
+
+tested : (t : tie.After-table) → let s = t .before .before .before .before .before in allowed (s .args .alphabet) (s .args .options) ≡ true
+tested t = sym (t .before .before .allowed .ensures) ∙ t .before .if1 .taken
 
 fresh-requires : tie.Need-fresh-requires
 fresh-requires c κs = search needs
@@ -16,18 +21,21 @@ allowed-requires c κs = search needs
 table-requires : tie.Need-table-requires
 table-requires c κs = search needs
 
-limit-requires : tie.Need-limit-requires
-limit-requires c κs = search needs
+below-limit-requires : tie.Need-below-limit-requires
+below-limit-requires c κs = omega arith
 
-slice-aggregate-front : tie.Need-slice-aggregate-front
-slice-aggregate-front c = front-length _ _ (c .before .if2 .taken)
+slice-aggregate-tally : tie.Need-slice-aggregate-tally
+slice-aggregate-tally c = let m = c .before .before in let s = m .before .before .before .before .before .before in
+    sym (below-length 0 (s .args .text .now) (m .below-limit .ensures))
 
 tally-requires : tie.Need-tally-requires
 tally-requires c κs =
-    let l = c .before .before .before in
-    let t = l .before in
-    let a = t .before .before in
-    (t .table .ensures, (sym (a .allowed .ensures) ∙ t .before .if1 .taken, start-ready (a .before .fresh .ensures) (most-within (a .before .before .before .args .text .now) (l .limit .ensures))))
+    let m = c .before .before in
+    let t = m .before in
+    let f = t .before .before .before in
+    (t .table .ensures,
+        (tested t, start-ready (f .fresh .ensures)
+            (omega (arith, below-fits 0 (f .before .before .args .text .now) (m .below-limit .ensures)))))
 
 at-limit-requires : tie.Need-at-limit-requires
 at-limit-requires c κs = search needs
@@ -35,35 +43,23 @@ at-limit-requires c κs = search needs
 returns : tie.Need-returns
 returns c =
     let y = c .before in
-    let l = y .before .before .before .before in
-    let a = l .before .before .before in
-    let s = a .before .before .before in
-    fresh-cut-is (s .args .alphabet) (s .args .options) (s .args .text .now) (sym (a .allowed .ensures) ∙ l .before .before .if1 .taken) (l .limit .ensures) (y .before .before .before .if2 .taken)
-    (from-start (s .args .alphabet) (s .args .options) (length (take (l .limit .result) (s .args .text .now))) (take (l .limit .result) (s .args .text .now)) (a .before .fresh .ensures) (y .tally .ensures)) (c .at-limit .ensures)
-
-tally-requires-2 : tie.Need-tally-requires-2
-tally-requires-2 c κs =
-    let l = c .before .before in
-    let t = l .before in
-    let a = t .before .before in
-    (t .table .ensures, (sym (a .allowed .ensures) ∙ t .before .if1 .taken, start-ready (a .before .fresh .ensures) (omega (arith, l .limit .ensures, c .before .if2 .left))))
-
-returns-2 : tie.Need-returns-2
-returns-2 c =
-    let l = c .before .before .before in
-    let a = l .before .before .before in
-    let s = a .before .before .before in
-    fresh-whole-is (s .args .alphabet) (s .args .options) (s .args .text .now) (sym (a .allowed .ensures) ∙ l .before .before .if1 .taken) (l .limit .ensures) (c .before .before .if2 .left)
-    (from-start (s .args .alphabet) (s .args .options) (length (s .args .text .now)) (s .args .text .now) (a .before .fresh .ensures) (c .tally2 .ensures))
+    let m = y .before .before .before in
+    let t = m .before in
+    let f = t .before .before .before in
+    let s = f .before .before in
+    let l = take (m .below-limit .result) (s .args .text .now) in
+    fresh-is (s .args .alphabet) (s .args .options) (s .args .text .now) (tested t) (m .below-limit .ensures)
+    (from-start (s .args .alphabet) (s .args .options) (length l) l (f .fresh .ensures) (y .tally .ensures)) (c .at-limit .ensures)
 
 unfit-requires : tie.Need-unfit-requires
 unfit-requires c κs = search needs
 
-returns-3 : tie.Need-returns-3
-returns-3 c =
+returns-2 : tie.Need-returns-2
+returns-2 c =
     let a = c .before .before in
     let s = a .before .before .before in
-    fresh-none (s .args .alphabet) (s .args .options) (s .args .text .now) (sym (a .allowed .ensures) ∙ c .before .if1 .left) (c .unfit .ensures ∙ unfit-start (a .before .fresh .ensures)) .0
+    fresh-none (s .args .alphabet) (s .args .options) (s .args .text .now) (sym (a .allowed .ensures) ∙ c .before .if1 .left)
+    (c .unfit .ensures ∙ unfit-start (a .before .fresh .ensures)) .0
 
 pub count-spec : {M : Type 1} → statement M
 count-spec =
@@ -72,12 +68,10 @@ count-spec =
     fresh-requires
     allowed-requires
     table-requires
-    limit-requires
-    slice-aggregate-front
+    below-limit-requires
+    slice-aggregate-tally
     tally-requires
     at-limit-requires
     returns
-    tally-requires-2
-    returns-2
     unfit-requires
-    returns-3)
+    returns-2)

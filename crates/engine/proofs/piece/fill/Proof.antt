@@ -1,221 +1,127 @@
--- `piece::fill`: each turn of the loop takes a byte as the definition does, or stops as it does. Assumes nothing.
-use Prim.Native.Nat.{_-_, _<_}
-use mathlib.Core.Path.{_≡_, sym, _∙_}
+-- `piece::fill`: a run into a buffer, made in stretches. Assumes nothing.
+use Prim.Native.Nat.{ℕ, _+_, _-_, _<_}
+use mathlib.Core.Path.{_≡_, refl, sym, _∙_, subst}
 use native.Mathlib.Omega.{arith}
-use lib.ListN.{length, getD}
+use mathlib.Core.List.{List, _++_}
+use lib.ListN.{length, take, drop}
 use borrow.Author.Needs.{needs}
-use Rattle.reading.specs.Reader.{step}
+use Rattle.reading.proofs.LimitLaws.{limit-small}
 use Rattle.reading.proofs.OptionLaws.{allowed-alphabet}
-use Rattle.reading.proofs.StepCases.{Stands}
-use Rattle.engine.specs.Meaning.{stateOf, stepOf, Fit}
-use Rattle.engine.proofs.Bytes.{plain-digit}
-use Rattle.engine.proofs.Loops.{Filling, filling-begins, same-size, filling-takes, filling-gives, filling-done, fit, loop-full, loop-refused, loop-all}
+use Rattle.engine.specs.declared.piece.Why.the-variants as W
+use Rattle.engine.specs.Ran.{thenAs}
+use Rattle.engine.specs.Loop.{Filling, Reached}
+use Rattle.engine.proofs.Loops.{rest-some, filling-ready}
+use Rattle.engine.proofs.Reaching.{goes-on, left, left-less, reached-begins, reached-size, reached-sums, reached-then, reached-done}
 use Rattle.engine.proofs.piece.fill.Statement.{statement}
 use Rattle.engine.proofs.piece.fill.Tie as tie
 
 abbrev Inv-loop : tie.InvT-loop
-Inv-loop t alphabet options piece out₀ b k₀ i₀ n₀ out k i n = Filling alphabet options piece k₀ out₀ out k i n
+Inv-loop t alphabet options piece out₀ s₀ out s = Reached alphabet options (s₀ .core) piece out₀ out s
 
 abbrev μ-loop : tie.MeasureT-loop
-μ-loop t alphabet options piece out₀ b k₀ i₀ n₀ out k i n = length piece - i
+μ-loop t alphabet options piece out₀ s₀ out s = left (s .why) (s .took) (length piece)
 
 -- ---- what is known in a turn
 
 abbrev start : tie.At-loop Inv-loop μ-loop → tie.Start Inv-loop μ-loop
-start h = h .before .before .before .before
+start h = h .before .before .before
 
 known : (h : tie.At-loop Inv-loop μ-loop) → start h .args .alphabet < 6
 known h = allowed-alphabet _ _ (start h .pre .1 .0)
 
-inside : (b : tie.In-loop Inv-loop μ-loop) → b .before .loop .i < length (start (b .before) .args .piece .now)
-inside b = b .loop-test .taken
+so-far : (h : tie.At-loop Inv-loop μ-loop)
+    → let s = start h in Reached (s .args .alphabet) (s .args .options) (s .args .start) (s .args .piece .now) (s .args .out .now)
+    (h .loop .out) (h .loop .s)
+so-far h = h .loop .inv
 
-ready : (b : tie.In-loop Inv-loop μ-loop) → Fit (start (b .before) .args .alphabet) (b .before .loop .k)
-ready b = let h = b .before in fit (known h) (h .loop .inv .loop) (start h .pre .1 .1) (inside b)
+abbrev head : tie.Then1 Inv-loop μ-loop → tie.At-loop Inv-loop μ-loop
+head c = c .before .before
 
--- the byte is a digit as it stands
-digit : (v : tie.After-v Inv-loop μ-loop)
-    → let h = v .before .before .before .before .before in Stands (start h .args .alphabet) (start h .args .options) (stateOf (h .loop .k)) (getD (start h .args .piece .now) (h .loop .i) 0) (v .v .given .0 .0)
-digit v =
-    let l = v .before .before in
-    let b = l .before in
-    let h = b .before .before in
-    let s = start h in
-    plain-digit _ _ (getD (s .args .piece .now) (h .loop .i) 0) (stateOf (h .loop .k)) (s .pre .0) (s .pre .1 .0) (omega (arith, b .shared-slice-known2 .given (h .loop .i))) (sym (l .lookup .ensures) ∙ v .v .given .1)
+going : (c : tie.Then1 Inv-loop μ-loop) → let h = head c in
+    (h .loop .s .why ≡ W.All) × (h .loop .s .took < length (start h .args .piece .now))
+going c = goes-on _ _ _ (sym (c .before .goes-on .ensures) ∙ c .if1 .taken)
 
--- what the byte does, asked of `on_digit` or of `rare`
-by-digit : (m : tie.After-on-digit Inv-loop μ-loop)
-    → let h = m .before .before .before .before .before .before .before in stepOf (m .on-digit .result) ≡ step (start h .args .alphabet) (start h .args .options) (stateOf (h .loop .k)) (getD (start h .args .piece .now) (h .loop .i) 0)
-by-digit m =
-    m .on-digit .ensures ∙ sym (digit (m .before .before) .is)
+filling : (c : tie.Then1 Inv-loop μ-loop)
+    → let h = head c in let s = start h in Filling (s .args .alphabet) (s .args .options) (s .args .piece .now) (s .args .start)
+    (s .args .out .now) (h .loop .out) (h .loop .s .core) (h .loop .s .took) (h .loop .s .wrote)
+filling c = so-far (head c) .goes (going c .0)
 
-by-rule : (m : tie.After-rare Inv-loop μ-loop)
-    → let h = m .before .before .before .before .before in stepOf (m .rare .result) ≡ step (start h .args .alphabet) (start h .args .options) (stateOf (h .loop .k)) (getD (start h .args .piece .now) (h .loop .i) 0)
-by-rule m =
-    m .rare .ensures
+abbrev test : tie.After-stretch Inv-loop μ-loop → tie.Then1 Inv-loop μ-loop
+test y = y .before .before .before
+
+abbrev out : tie.After-stretch Inv-loop μ-loop → List ℕ
+out y =
+    let l = head (test y) .loop in
+    take (l .s .wrote) (l .out) ++ (y .stretch .last .1 .1 .1 .1 .1 .0 ++ drop (length (l .out) - l .s .wrote)
+        (drop (l .s .wrote) (l .out)))
+
+-- after the stretch
+next : (y : tie.After-stretch Inv-loop μ-loop)
+    → let h = head (test y) in let s = start h in Reached (s .args .alphabet) (s .args .options) (s .args .start) (s .args .piece .now)
+    (s .args .out .now) (out y) (thenAs (h .loop .s) (y .stretch .result))
+next y = let h = head (test y) in reached-then (known h) (so-far h) (going (test y) .0) (y .stretch .ensures .reached)
 
 -- ---- the needs
 
-bits-requires : tie.Need-bits-requires Inv-loop μ-loop
-bits-requires c κs = search needs
-
 loop-holds : tie.Need-loop-holds Inv-loop μ-loop
-loop-holds c = filling-begins _ _ _ _ _ (c .before .before .before .pre .1 .1)
+loop-holds c = reached-begins refl (c .before .before .pre .1 .1) refl
 
-shared-slice-read-byte : tie.Need-shared-slice-read-byte Inv-loop μ-loop
-shared-slice-read-byte c = search needs
+goes-on-requires : tie.Need-goes-on-requires Inv-loop μ-loop
+goes-on-requires c κs = search needs
 
-lookup-requires : tie.Need-lookup-requires Inv-loop μ-loop
-lookup-requires c κs = search needs
+sub-stretch : tie.Need-sub-stretch Inv-loop μ-loop
+sub-stretch c = omega (arith, going c .1)
 
-enum-known-v : tie.Need-enum-known-v Inv-loop μ-loop
-enum-known-v c = search needs
+part-stretch-start : tie.Need-part-stretch-start Inv-loop μ-loop
+part-stretch-start c = omega (arith, going c .1)
 
-on-digit-requires : tie.Need-on-digit-requires Inv-loop μ-loop
-on-digit-requires c κs =
-    let b = c .before .before .before .before .before in
-    (b .before .before .bits .ensures, (known (b .before), (ready b, digit (c .before) .small)))
+part-stretch-end : tie.Need-part-stretch-end Inv-loop μ-loop
+part-stretch-end c = search needs
 
-enum-known-c : tie.Need-enum-known-c Inv-loop μ-loop
-enum-known-c c = search needs
+sub-stretch-2 : tie.Need-sub-stretch-2 Inv-loop μ-loop
+sub-stretch-2 c = let h = head (c .before) in omega (arith, reached-size (known h) (so-far h), reached-sums (known h) (so-far h) .1)
 
-add-i : tie.Need-add-i Inv-loop μ-loop
-add-i c = search needs
+part-stretch-start-2 : tie.Need-part-stretch-start-2 Inv-loop μ-loop
+part-stretch-start-2 c = let h = head (c .before) in omega (arith, reached-size (known h) (so-far h), reached-sums (known h) (so-far h) .1)
+
+part-stretch-end-2 : tie.Need-part-stretch-end-2 Inv-loop μ-loop
+part-stretch-end-2 c = search needs
+
+stretch-requires : tie.Need-stretch-requires Inv-loop μ-loop
+stretch-requires c κs =
+    let b = c .before .before in
+    let h = head b in
+    let s = start h in
+    (s .pre .0, (s .pre .1 .0, filling-ready (known h) (filling b) (s .pre .1 .1)))
+
+then-requires : tie.Need-then-requires Inv-loop μ-loop
+then-requires c κs =
+    let y = c .before .before in
+    let h = head (test y) in
+    let n = reached-sums (known h) (next y) in
+    let s = start h in
+    (omega (arith, n .0, s .pre .1 .1 .within, limit-small), omega (arith, n .1, s .good .1 .1 .1 .1 .1 .0 .0))
 
 loop-less : tie.Need-loop-less Inv-loop μ-loop
-loop-less c = search needs
+loop-less c =
+    let y = c .before .before .before in
+    let b = test y in
+    let h = head b in
+    left-less (h .loop .s) (y .stretch .result) (length (start h .args .piece .now)) (going b .0) (going b .1) (c .then .ensures)
+    (λ w. y .stretch .ensures .some w (rest-some (start h .args .piece .now) (h .loop .s .took) (going b .1)))
 
 loop-again : tie.Need-loop-again Inv-loop μ-loop
 loop-again c =
-    let m = c .before .before .before in
-    let b = m .before .before .before .before .before .before in
-    let h = b .before in
-    filling-takes (known h) (h .loop .inv) (b .loop-test .taken) (by-digit m) (c .before .c .given .1)
-
-enum-known-x : tie.Need-enum-known-x Inv-loop μ-loop
-enum-known-x c = search needs
+    let y = c .before .before .before in
+    let s = start (head (test y)) in
+    subst (Reached (s .args .alphabet) (s .args .options) (s .args .start) (s .args .piece .now) (s .args .out .now) (out y))
+        (sym (c .then .ensures)) (next y)
 
 same-length : tie.Need-same-length Inv-loop μ-loop
-same-length c = let h = c .before .before .before .before .before .before .before .before .before .before .before in same-size (known h) (h .loop .inv)
+same-length c = let h = c .before .before in reached-size (known h) (so-far h)
 
 returns : tie.Need-returns Inv-loop μ-loop
-returns c =
-    let m = c .before .before .before .before in
-    let b = m .before .before .before .before .before .before in
-    let h = b .before in
-    filling-done (known h) (h .loop .inv) (loop-full (known h) (h .loop .inv .loop) (inside b) (by-digit m) (c .before .before .x .given .1) (c .if1 .taken ∙ same-size (known h) (h .loop .inv)))
-
-slice-write-out : tie.Need-slice-write-out Inv-loop μ-loop
-slice-write-out c =
-    let m = c .before .before .before .before in
-    let b = m .before .before .before .before .before .before in
-    let h = b .before in
-    omega (arith, same-size (known h) (h .loop .inv), h .loop .inv .loop .going .fits, c .if1 .left)
-
-add-n : tie.Need-add-n Inv-loop μ-loop
-add-n c = search needs
-
-add-i-2 : tie.Need-add-i-2 Inv-loop μ-loop
-add-i-2 c = search needs
-
-loop-less-2 : tie.Need-loop-less-2 Inv-loop μ-loop
-loop-less-2 c = search needs
-
-loop-again-2 : tie.Need-loop-again-2 Inv-loop μ-loop
-loop-again-2 c =
-    let m = c .before .before .before .before in
-    let b = m .before .before .before .before .before .before in
-    let h = b .before in
-    filling-gives (known h) (h .loop .inv) (b .loop-test .taken) (by-digit m) (c .before .before .x .given .1) (omega (arith, same-size (known h) (h .loop .inv), h .loop .inv .loop .going .fits, c .if1 .left))
-
-enum-known-e : tie.Need-enum-known-e Inv-loop μ-loop
-enum-known-e c = search needs
-
-same-length-2 : tie.Need-same-length-2 Inv-loop μ-loop
-same-length-2 c = let h = c .before .before .before .before .before .before .before .before .before .before in same-size (known h) (h .loop .inv)
-
-returns-2 : tie.Need-returns-2 Inv-loop μ-loop
-returns-2 c =
-    let m = c .before .before .before in
-    let b = m .before .before .before .before .before .before in
-    let h = b .before in
-    filling-done (known h) (h .loop .inv) (loop-refused (known h) (h .loop .inv .loop) (inside b) (by-digit m) (c .before .e .given .1))
-
-rare-requires : tie.Need-rare-requires Inv-loop μ-loop
-rare-requires c κs =
-    let b = c .before .before .before in
-    (start (b .before) .pre .0, (known (b .before), ready b))
-
-enum-known-c-2 : tie.Need-enum-known-c-2 Inv-loop μ-loop
-enum-known-c-2 c = search needs
-
-add-i-3 : tie.Need-add-i-3 Inv-loop μ-loop
-add-i-3 c = search needs
-
-loop-less-3 : tie.Need-loop-less-3 Inv-loop μ-loop
-loop-less-3 c = search needs
-
-loop-again-3 : tie.Need-loop-again-3 Inv-loop μ-loop
-loop-again-3 c =
-    let m = c .before .before .before in
-    let b = m .before .before .before .before in
-    let h = b .before in
-    filling-takes (known h) (h .loop .inv) (b .loop-test .taken) (by-rule m) (c .before .c2 .given .1)
-
-enum-known-x-2 : tie.Need-enum-known-x-2 Inv-loop μ-loop
-enum-known-x-2 c = search needs
-
-same-length-3 : tie.Need-same-length-3 Inv-loop μ-loop
-same-length-3 c = let h = c .before .before .before .before .before .before .before .before .before in same-size (known h) (h .loop .inv)
-
-returns-3 : tie.Need-returns-3 Inv-loop μ-loop
-returns-3 c =
-    let m = c .before .before .before .before in
-    let b = m .before .before .before .before in
-    let h = b .before in
-    filling-done (known h) (h .loop .inv) (loop-full (known h) (h .loop .inv .loop) (inside b) (by-rule m) (c .before .before .x2 .given .1) (c .if2 .taken ∙ same-size (known h) (h .loop .inv)))
-
-slice-write-out-2 : tie.Need-slice-write-out-2 Inv-loop μ-loop
-slice-write-out-2 c =
-    let m = c .before .before .before .before in
-    let b = m .before .before .before .before in
-    let h = b .before in
-    omega (arith, same-size (known h) (h .loop .inv), h .loop .inv .loop .going .fits, c .if2 .left)
-
-add-n-2 : tie.Need-add-n-2 Inv-loop μ-loop
-add-n-2 c = search needs
-
-add-i-4 : tie.Need-add-i-4 Inv-loop μ-loop
-add-i-4 c = search needs
-
-loop-less-4 : tie.Need-loop-less-4 Inv-loop μ-loop
-loop-less-4 c = search needs
-
-loop-again-4 : tie.Need-loop-again-4 Inv-loop μ-loop
-loop-again-4 c =
-    let m = c .before .before .before .before in
-    let b = m .before .before .before .before in
-    let h = b .before in
-    filling-gives (known h) (h .loop .inv) (b .loop-test .taken) (by-rule m) (c .before .before .x2 .given .1) (omega (arith, same-size (known h) (h .loop .inv), h .loop .inv .loop .going .fits, c .if2 .left))
-
-enum-known-e-2 : tie.Need-enum-known-e-2 Inv-loop μ-loop
-enum-known-e-2 c = search needs
-
-same-length-4 : tie.Need-same-length-4 Inv-loop μ-loop
-same-length-4 c = let h = c .before .before .before .before .before .before .before .before in same-size (known h) (h .loop .inv)
-
-returns-4 : tie.Need-returns-4 Inv-loop μ-loop
-returns-4 c =
-    let m = c .before .before .before in
-    let b = m .before .before .before .before in
-    let h = b .before in
-    filling-done (known h) (h .loop .inv) (loop-refused (known h) (h .loop .inv .loop) (inside b) (by-rule m) (c .before .e2 .given .1))
-
-same-length-5 : tie.Need-same-length-5 Inv-loop μ-loop
-same-length-5 c = let h = c .before in same-size (known h) (h .loop .inv)
-
-returns-5 : tie.Need-returns-5 Inv-loop μ-loop
-returns-5 c = let h = c .before in filling-done (known h) (h .loop .inv) (loop-all (known h) (h .loop .inv .loop) (c .loop-test .left))
+returns c = let h = c .before .before in reached-done (known h) (so-far h) (sym (c .before .goes-on .ensures) ∙ c .if1 .left)
 
 pub fill-spec : {M : Type 1} → statement M
 fill-spec =
@@ -223,42 +129,17 @@ fill-spec =
     (tie.spec
     Inv-loop
     μ-loop
-    bits-requires
     loop-holds
-    shared-slice-read-byte
-    lookup-requires
-    enum-known-v
-    on-digit-requires
-    enum-known-c
-    add-i
+    goes-on-requires
+    sub-stretch
+    part-stretch-start
+    part-stretch-end
+    sub-stretch-2
+    part-stretch-start-2
+    part-stretch-end-2
+    stretch-requires
+    then-requires
     loop-less
     loop-again
-    enum-known-x
     same-length
-    returns
-    slice-write-out
-    add-n
-    add-i-2
-    loop-less-2
-    loop-again-2
-    enum-known-e
-    same-length-2
-    returns-2
-    rare-requires
-    enum-known-c-2
-    add-i-3
-    loop-less-3
-    loop-again-3
-    enum-known-x-2
-    same-length-3
-    returns-3
-    slice-write-out-2
-    add-n-2
-    add-i-4
-    loop-less-4
-    loop-again-4
-    enum-known-e-2
-    same-length-4
-    returns-4
-    same-length-5
-    returns-5)
+    returns)

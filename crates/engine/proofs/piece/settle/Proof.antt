@@ -1,199 +1,175 @@
--- `piece::settle`: each turn of the loop takes a byte as the definition does, or stops as it does. Assumes nothing.
-use Prim.Native.Nat.{_-_, _<_}
-use mathlib.Core.Path.{_≡_, sym, ap, _∙_}
+-- `piece::settle`: a run in place, made in parts. Assumes nothing.
+use Prim.Native.Nat.{ℕ, _-_, _<_, _≤_}
+use mathlib.Core.Path.{_≡_, refl, sym, ap, _∙_, subst}
 use native.Mathlib.Omega.{arith}
-use lib.ListN.{length, getD}
 use borrow.Author.Needs.{needs}
-use Rattle.reading.specs.Reader.{step}
+use Rattle.reading.proofs.LimitLaws.{limit-small}
 use Rattle.reading.proofs.OptionLaws.{allowed-alphabet}
-use Rattle.reading.proofs.StepCases.{Stands}
-use Rattle.engine.specs.Meaning.{stateOf, stepOf, Fit}
-use Rattle.engine.proofs.Bytes.{plain-digit}
-use Rattle.engine.proofs.Loops.{Inside, inside-begins, inside-reads, inside-in, inside-takes, inside-gives, same-size, filling-done, fit, loop-refused, loop-all}
+use Rattle.engine.specs.declared.piece.Why.the-variants as W
+use mathlib.Core.List.{List, _++_}
+use lib.ListN.{length, take, drop, length-take}
+use Rattle.engine.specs.Ran.{goesOn, thenAs, Ready}
+use Rattle.engine.specs.Loop.{Part}
+use Rattle.engine.proofs.Reaching.{goes-on, left, left-less}
+use Rattle.engine.proofs.Parts.{Settled, settled-begins, counted-sums, part-ready, counted-some, settled-then, settled-done}
+use Rattle.engine.proofs.Parts.{settled-size, settled-ends, settled-reads, settled-part, settled-whole, settled-fits}
 use Rattle.engine.proofs.piece.settle.Statement.{statement}
 use Rattle.engine.proofs.piece.settle.Tie as tie
 
 abbrev Inv-loop : tie.InvT-loop
-Inv-loop t alphabet options buf₀ b k₀ i₀ n₀ buf k i n = Inside alphabet options buf₀ k₀ buf k i n
+Inv-loop t alphabet options buf₀ s₀ buf s = Settled alphabet options buf₀ (s₀ .core) buf s
 
 abbrev μ-loop : tie.MeasureT-loop
-μ-loop t alphabet options buf₀ b k₀ i₀ n₀ buf k i n = length buf₀ - i
+μ-loop t alphabet options buf₀ s₀ buf s = left (s .why) (s .took) (length buf₀)
 
 -- ---- what is known in a turn
 
 abbrev start : tie.At-loop Inv-loop μ-loop → tie.Start Inv-loop μ-loop
-start h = h .before .before .before
+start h = h .before .before
 
 known : (h : tie.At-loop Inv-loop μ-loop) → start h .args .alphabet < 6
 known h = allowed-alphabet _ _ (start h .pre .1 .0)
 
-inside : (b : tie.In-loop Inv-loop μ-loop) → b .before .loop .i < length (start (b .before) .args .buf .now)
-inside b = inside-in (known (b .before)) (b .before .loop .inv) (b .loop-test .taken)
+so-far : (h : tie.At-loop Inv-loop μ-loop)
+    → let s = start h in Settled (s .args .alphabet) (s .args .options) (s .args .buf .now) (s .args .start) (h .loop .buf) (h .loop .s)
+so-far h = h .loop .inv
 
-ready : (b : tie.In-loop Inv-loop μ-loop) → Fit (start (b .before) .args .alphabet) (b .before .loop .k)
-ready b = let h = b .before in fit (known h) (h .loop .inv .fill .loop) (start h .pre .1 .1) (inside b)
+size : (h : tie.At-loop Inv-loop μ-loop) → length (h .loop .buf) ≡ length (start h .args .buf .now)
+size h = settled-size (known h) (so-far h)
 
--- the byte is a digit as it stands
-digit : (v : tie.After-v Inv-loop μ-loop)
-    → let h = v .before .before .before .before .before in Stands (start h .args .alphabet) (start h .args .options) (stateOf (h .loop .k)) (getD (h .loop .buf) (h .loop .i) 0) (v .v .given .0 .0)
-digit v =
-    let l = v .before .before in
-    let b = l .before in
-    let h = b .before .before in
-    let s = start h in
-    plain-digit _ _ (getD (h .loop .buf) (h .loop .i) 0) (stateOf (h .loop .k)) (s .pre .0) (s .pre .1 .0) (omega (arith, b .slice-known2 .given (h .loop .i))) (sym (l .lookup .ensures) ∙ v .v .given .1)
+going : (c : tie.Then1 Inv-loop μ-loop) → let h = c .before .before in
+    (h .loop .s .why ≡ W.All) × (h .loop .s .took < length (h .loop .buf))
+going c = goes-on _ _ _ (sym (c .before .goes-on .ensures) ∙ c .if1 .taken)
 
--- what the byte does, asked of `on_digit` or of `rare`
-by-digit : (m : tie.After-on-digit Inv-loop μ-loop)
-    → let h = m .before .before .before .before .before .before .before in stepOf (m .on-digit .result) ≡ step (start h .args .alphabet) (start h .args .options) (stateOf (h .loop .k)) (getD (start h .args .buf .now) (h .loop .i) 0)
-by-digit m =
-    let h = m .before .before .before .before .before .before .before in
-    m .on-digit .ensures ∙ sym (digit (m .before .before) .is) ∙ ap (step _ _ (stateOf (h .loop .k))) (inside-reads (known h) (h .loop .inv))
+-- the part that was put aside
+abbrev end : tie.After-copied Inv-loop μ-loop → tie.After-part-end Inv-loop μ-loop
+end y = y .before .before .before
 
-by-rule : (m : tie.After-rare Inv-loop μ-loop)
-    → let h = m .before .before .before .before .before in stepOf (m .rare .result) ≡ step (start h .args .alphabet) (start h .args .options) (stateOf (h .loop .k)) (getD (start h .args .buf .now) (h .loop .i) 0)
-by-rule m =
-    let h = m .before .before .before .before .before in
-    m .rare .ensures ∙ ap (step _ _ (stateOf (h .loop .k))) (inside-reads (known h) (h .loop .inv))
+abbrev head : tie.After-copied Inv-loop μ-loop → tie.At-loop Inv-loop μ-loop
+head y = end y .before .before .before
+
+all : (y : tie.After-copied Inv-loop μ-loop) → head y .loop .s .why ≡ W.All
+all y = going (end y .before) .0
+
+ends : (y : tie.After-copied Inv-loop μ-loop) → Part (head y .loop .s .took) (end y .part-end .result)
+    (length (start (head y) .args .buf .now))
+ends y = settled-ends (known (head y)) (so-far (head y)) (all y) (end y .part-end .ensures)
+
+is-part : (y : tie.After-copied Inv-loop μ-loop)
+    → let m = end y .part-end .result - head y .loop .s .took in
+    take m (y .copied .result) ≡ take m (drop (head y .loop .s .took) (start (head y) .args .buf .now))
+is-part y = settled-part (known (head y)) (so-far (head y)) (all y) (end y .part-end .ensures) (y .copied .result) (y .copied .ensures)
+
+whole : (y : tie.After-copied Inv-loop μ-loop) → let m = end y .part-end .result - head y .loop .s .took in
+    length (take m (y .copied .result)) ≡ m
+whole y = settled-whole (known (head y)) (so-far (head y)) (all y) (end y .part-end .ensures) (y .copied .result) (y .copied .ensures)
+
+-- after the part
+abbrev from : tie.After-fill Inv-loop μ-loop → tie.After-copied Inv-loop μ-loop
+from f = f .before .before .before
+
+fits : (f : tie.After-fill Inv-loop μ-loop)
+    → let y = from f in let l = head y .loop in length (take (end y .part-end .result - l .s .took) (y .copied .result)) ≤ length
+    (take (length (l .buf) - l .s .wrote) (drop (l .s .wrote) (l .buf)))
+fits f = let y = from f in settled-fits (known (head y)) (so-far (head y)) (all y) (end y .part-end .ensures) (y .copied .result)
+    (y .copied .ensures)
+
+abbrev buf : tie.After-fill Inv-loop μ-loop → List ℕ
+buf f =
+    let l = head (from f) .loop in
+    take (l .s .wrote) (l .buf) ++ (f .fill .last .1 .1 .1 .1 .1 .0 ++ drop (length (l .buf) - l .s .wrote) (drop (l .s .wrote) (l .buf)))
+
+next : (f : tie.After-fill Inv-loop μ-loop)
+    → let h = head (from f) in let s = start h in Settled (s .args .alphabet) (s .args .options) (s .args .buf .now) (s .args .start)
+    (buf f) (thenAs (h .loop .s) (f .fill .result))
+next f =
+    let y = from f in
+    let h = head y in
+    settled-then (h .loop .s) (known h) (so-far h .count .goes (all y)) (ends y) (is-part y) (fits f) (f .fill .ensures .0)
+        (so-far h .front) (f .fill .ensures .1)
 
 -- ---- the needs
 
-bits-requires : tie.Need-bits-requires Inv-loop μ-loop
-bits-requires c κs = search needs
-
 loop-holds : tie.Need-loop-holds Inv-loop μ-loop
-loop-holds c = inside-begins _ _ _ _ (c .before .before .pre .1 .1)
+loop-holds c = settled-begins refl (c .before .pre .1 .1)
 
-slice-read-byte : tie.Need-slice-read-byte Inv-loop μ-loop
-slice-read-byte c = search needs
+goes-on-requires : tie.Need-goes-on-requires Inv-loop μ-loop
+goes-on-requires c κs = search needs
 
-lookup-requires : tie.Need-lookup-requires Inv-loop μ-loop
-lookup-requires c κs = search needs
+part-end-requires : tie.Need-part-end-requires Inv-loop μ-loop
+part-end-requires c κs = going c .1
 
-enum-known-v : tie.Need-enum-known-v Inv-loop μ-loop
-enum-known-v c = search needs
+sub-m : tie.Need-sub-m Inv-loop μ-loop
+sub-m c = omega (arith, c .part-end .ensures .begins)
 
-on-digit-requires : tie.Need-on-digit-requires Inv-loop μ-loop
-on-digit-requires c κs =
-    let b = c .before .before .before .before .before in
-    (b .before .before .bits .ensures, (known (b .before), (ready b, digit (c .before) .small)))
+sub-copied : tie.Need-sub-copied Inv-loop μ-loop
+sub-copied c = omega (arith, c .part-end .ensures .begins)
 
-enum-known-c : tie.Need-enum-known-c Inv-loop μ-loop
-enum-known-c c = search needs
+part-copied-start : tie.Need-part-copied-start Inv-loop μ-loop
+part-copied-start c = omega (arith, c .before .part-end .ensures .begins)
 
-add-i : tie.Need-add-i Inv-loop μ-loop
-add-i c = let h = c .before .before .before .before .before .before .before .before .before .before in omega (arith, same-size (known h) (h .loop .inv .fill), h .loop .inv .behind)
+part-copied-end : tie.Need-part-copied-end Inv-loop μ-loop
+part-copied-end c = omega (arith, c .before .part-end .ensures .within)
+
+copied-requires : tie.Need-copied-requires Inv-loop μ-loop
+copied-requires c κs =
+    let e = c .before .before in
+    let h = e .before .before .before in
+    omega (arith, settled-reads (known h) (so-far h) (going (e .before) .0) (e .part-end .ensures), e .part-end .ensures .small)
+
+array-share-prefix-aside : tie.Need-array-share-prefix-aside Inv-loop μ-loop
+array-share-prefix-aside c = omega (arith, whole c, length-take (end c .part-end .result - head c .loop .s .took) (c .copied .result))
+
+slice-aggregate-fill : tie.Need-slice-aggregate-fill Inv-loop μ-loop
+slice-aggregate-fill c = sym (whole (c .before))
+
+sub-fill : tie.Need-sub-fill Inv-loop μ-loop
+sub-fill c = let h = head (c .before) in omega (arith, size h, counted-sums (known h) (so-far h .count) .1)
+
+part-fill-start : tie.Need-part-fill-start Inv-loop μ-loop
+part-fill-start c = let h = head (c .before) in omega (arith, size h, counted-sums (known h) (so-far h .count) .1)
+
+part-fill-end : tie.Need-part-fill-end Inv-loop μ-loop
+part-fill-end c = search needs
+
+fill-requires : tie.Need-fill-requires Inv-loop μ-loop
+fill-requires c κs =
+    let y = c .before .before in
+    let h = head y in
+    let s = start h in
+    (s .pre .0, (s .pre .1 .0, subst (λ (p : List ℕ). Ready (s .args .alphabet) (h .loop .s .core) (length p)) (sym (is-part y))
+        (part-ready (so-far h .count .goes (all y)) (ends y) (s .pre .1 .1))))
+
+then-requires : tie.Need-then-requires Inv-loop μ-loop
+then-requires c κs =
+    let f = c .before .before in
+    let h = head (from f) in
+    let n = counted-sums (known h) (next f .count) in
+    (omega (arith, n .0, start h .pre .1 .1 .within, limit-small), omega (arith, n .1, start h .pre .1 .1 .within, limit-small))
 
 loop-less : tie.Need-loop-less Inv-loop μ-loop
-loop-less c = let h = c .before .before .before .before .before .before .before .before .before .before in omega (arith, same-size (known h) (h .loop .inv .fill), h .loop .inv .behind)
+loop-less c =
+    let f = c .before .before .before in
+    let y = from f in
+    let h = head y in
+    left-less (h .loop .s) (f .fill .result) (length (start h .args .buf .now)) (all y) (omega (arith, size h, going (end y .before) .1))
+        (c .then .ensures)
+    (counted-some (h .loop .s) (known h) (so-far h .count .goes (all y)) (ends y) (is-part y) (fits f) (f .fill .ensures .0))
 
 loop-again : tie.Need-loop-again Inv-loop μ-loop
 loop-again c =
-    let m = c .before .before .before in
-    let b = m .before .before .before .before .before .before in
-    let h = b .before in
-    inside-takes (known h) (h .loop .inv) (b .loop-test .taken) (by-digit m) (c .before .c .given .1)
-
-enum-known-x : tie.Need-enum-known-x Inv-loop μ-loop
-enum-known-x c = search needs
-
-slice-write-buf : tie.Need-slice-write-buf Inv-loop μ-loop
-slice-write-buf c =
-    let h = c .before .before .before .before .before .before .before .before .before .before in omega (arith, h .loop .inv .behind)
-
-add-n : tie.Need-add-n Inv-loop μ-loop
-add-n c = let h = c .before .before .before .before .before .before .before .before .before .before in omega (arith, same-size (known h) (h .loop .inv .fill), h .loop .inv .behind)
-
-add-i-2 : tie.Need-add-i-2 Inv-loop μ-loop
-add-i-2 c = let h = c .before .before .before .before .before .before .before .before .before .before in omega (arith, same-size (known h) (h .loop .inv .fill), h .loop .inv .behind)
-
-loop-less-2 : tie.Need-loop-less-2 Inv-loop μ-loop
-loop-less-2 c = let h = c .before .before .before .before .before .before .before .before .before .before in omega (arith, same-size (known h) (h .loop .inv .fill), h .loop .inv .behind)
-
-loop-again-2 : tie.Need-loop-again-2 Inv-loop μ-loop
-loop-again-2 c =
-    let m = c .before .before .before in
-    let b = m .before .before .before .before .before .before in
-    let h = b .before in
-    inside-gives (known h) (h .loop .inv) (b .loop-test .taken) (by-digit m) (c .before .x .given .1)
-
-enum-known-e : tie.Need-enum-known-e Inv-loop μ-loop
-enum-known-e c = search needs
+    let f = c .before .before .before in
+    let s = start (head (from f)) in
+    subst (Settled (s .args .alphabet) (s .args .options) (s .args .buf .now) (s .args .start) (buf f)) (sym (c .then .ensures)) (next f)
 
 same-length : tie.Need-same-length Inv-loop μ-loop
-same-length c = let h = c .before .before .before .before .before .before .before .before .before .before in same-size (known h) (h .loop .inv .fill)
+same-length c = size (c .before .before)
 
 returns : tie.Need-returns Inv-loop μ-loop
 returns c =
-    let m = c .before .before .before in
-    let b = m .before .before .before .before .before .before in
-    let h = b .before in
-    filling-done (known h) (h .loop .inv .fill) (loop-refused (known h) (h .loop .inv .fill .loop) (inside b) (by-digit m) (c .before .e .given .1))
-
-rare-requires : tie.Need-rare-requires Inv-loop μ-loop
-rare-requires c κs =
-    let b = c .before .before .before in
-    (start (b .before) .pre .0, (known (b .before), ready b))
-
-enum-known-c-2 : tie.Need-enum-known-c-2 Inv-loop μ-loop
-enum-known-c-2 c = search needs
-
-add-i-3 : tie.Need-add-i-3 Inv-loop μ-loop
-add-i-3 c = let h = c .before .before .before .before .before .before .before .before in omega (arith, same-size (known h) (h .loop .inv .fill), h .loop .inv .behind)
-
-loop-less-3 : tie.Need-loop-less-3 Inv-loop μ-loop
-loop-less-3 c = let h = c .before .before .before .before .before .before .before .before in omega (arith, same-size (known h) (h .loop .inv .fill), h .loop .inv .behind)
-
-loop-again-3 : tie.Need-loop-again-3 Inv-loop μ-loop
-loop-again-3 c =
-    let m = c .before .before .before in
-    let b = m .before .before .before .before in
-    let h = b .before in
-    inside-takes (known h) (h .loop .inv) (b .loop-test .taken) (by-rule m) (c .before .c2 .given .1)
-
-enum-known-x-2 : tie.Need-enum-known-x-2 Inv-loop μ-loop
-enum-known-x-2 c = search needs
-
-slice-write-buf-2 : tie.Need-slice-write-buf-2 Inv-loop μ-loop
-slice-write-buf-2 c =
-    let h = c .before .before .before .before .before .before .before .before in omega (arith, h .loop .inv .behind)
-
-add-n-2 : tie.Need-add-n-2 Inv-loop μ-loop
-add-n-2 c = let h = c .before .before .before .before .before .before .before .before in omega (arith, same-size (known h) (h .loop .inv .fill), h .loop .inv .behind)
-
-add-i-4 : tie.Need-add-i-4 Inv-loop μ-loop
-add-i-4 c = let h = c .before .before .before .before .before .before .before .before in omega (arith, same-size (known h) (h .loop .inv .fill), h .loop .inv .behind)
-
-loop-less-4 : tie.Need-loop-less-4 Inv-loop μ-loop
-loop-less-4 c = let h = c .before .before .before .before .before .before .before .before in omega (arith, same-size (known h) (h .loop .inv .fill), h .loop .inv .behind)
-
-loop-again-4 : tie.Need-loop-again-4 Inv-loop μ-loop
-loop-again-4 c =
-    let m = c .before .before .before in
-    let b = m .before .before .before .before in
-    let h = b .before in
-    inside-gives (known h) (h .loop .inv) (b .loop-test .taken) (by-rule m) (c .before .x2 .given .1)
-
-enum-known-e-2 : tie.Need-enum-known-e-2 Inv-loop μ-loop
-enum-known-e-2 c = search needs
-
-same-length-2 : tie.Need-same-length-2 Inv-loop μ-loop
-same-length-2 c = let h = c .before .before .before .before .before .before .before .before in same-size (known h) (h .loop .inv .fill)
-
-returns-2 : tie.Need-returns-2 Inv-loop μ-loop
-returns-2 c =
-    let m = c .before .before .before in
-    let b = m .before .before .before .before in
-    let h = b .before in
-    filling-done (known h) (h .loop .inv .fill) (loop-refused (known h) (h .loop .inv .fill .loop) (inside b) (by-rule m) (c .before .e2 .given .1))
-
-same-length-3 : tie.Need-same-length-3 Inv-loop μ-loop
-same-length-3 c = let h = c .before in same-size (known h) (h .loop .inv .fill)
-
-returns-3 : tie.Need-returns-3 Inv-loop μ-loop
-returns-3 c =
-    let h = c .before in
-    filling-done (known h) (h .loop .inv .fill) (loop-all (known h) (h .loop .inv .fill .loop) (omega (arith, same-size (known h) (h .loop .inv .fill), c .loop-test .left)))
+    let h = c .before .before in
+    settled-done (known h) (so-far h) (ap (goesOn (h .loop .s .why) (h .loop .s .took)) (sym (size h)) ∙ sym (c .before .goes-on .ensures)
+        ∙ c .if1 .left)
 
 pub settle-spec : {M : Type 1} → statement M
 settle-spec =
@@ -201,38 +177,22 @@ settle-spec =
     (tie.spec
     Inv-loop
     μ-loop
-    bits-requires
     loop-holds
-    slice-read-byte
-    lookup-requires
-    enum-known-v
-    on-digit-requires
-    enum-known-c
-    add-i
+    goes-on-requires
+    part-end-requires
+    sub-m
+    sub-copied
+    part-copied-start
+    part-copied-end
+    copied-requires
+    array-share-prefix-aside
+    slice-aggregate-fill
+    sub-fill
+    part-fill-start
+    part-fill-end
+    fill-requires
+    then-requires
     loop-less
     loop-again
-    enum-known-x
-    slice-write-buf
-    add-n
-    add-i-2
-    loop-less-2
-    loop-again-2
-    enum-known-e
     same-length
-    returns
-    rare-requires
-    enum-known-c-2
-    add-i-3
-    loop-less-3
-    loop-again-3
-    enum-known-x-2
-    slice-write-buf-2
-    add-n-2
-    add-i-4
-    loop-less-4
-    loop-again-4
-    enum-known-e-2
-    same-length-2
-    returns-2
-    same-length-3
-    returns-3)
+    returns)

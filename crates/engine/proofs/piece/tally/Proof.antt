@@ -1,178 +1,114 @@
--- `piece::tally`: each turn of the loop takes a byte as the definition does, or stops as it does. Assumes nothing.
-use Prim.Native.Nat.{_-_, _<_}
-use mathlib.Core.Path.{_≡_, sym, _∙_}
+-- `piece::tally`: a run that counts, made in parts. Assumes nothing.
+use Prim.Native.Nat.{_-_, _<_, _≤_}
+use mathlib.Core.Path.{_≡_, refl, sym, _∙_, subst}
 use native.Mathlib.Omega.{arith}
-use lib.ListN.{length, getD}
 use borrow.Author.Needs.{needs}
-use Rattle.reading.specs.Reader.{step}
+use Rattle.reading.proofs.LimitLaws.{limit-small}
 use Rattle.reading.proofs.OptionLaws.{allowed-alphabet}
-use Rattle.reading.proofs.StepCases.{Stands}
-use Rattle.engine.specs.Meaning.{stateOf, stepOf, Fit}
-use Rattle.engine.proofs.Bytes.{plain-digit}
-use Rattle.engine.proofs.Loops.{Tally, tally-begins, tally-takes, tally-gives, fit, loop-refused, loop-all}
+use Rattle.engine.specs.declared.piece.Why.the-variants as W
+use lib.ListN.{length, take, drop}
+use Rattle.engine.specs.Ran.{thenAs}
+use Rattle.engine.proofs.Reaching.{goes-on, left, left-less}
+use Rattle.engine.proofs.Parts.{Counting, Counted, counted-begins, counted-sums, counted-done, part-size, part-ready, counted-then}
+use Rattle.engine.proofs.Parts.{counted-some}
 use Rattle.engine.proofs.piece.tally.Statement.{statement}
 use Rattle.engine.proofs.piece.tally.Tie as tie
 
 abbrev Inv-loop : tie.InvT-loop
-Inv-loop t alphabet options text b k₀ i₀ n₀ k i n = Tally alphabet options text k₀ k i n
+Inv-loop t alphabet options text s₀ s = Counted alphabet options text (s₀ .core) s
 
 abbrev μ-loop : tie.MeasureT-loop
-μ-loop t alphabet options text b k₀ i₀ n₀ k i n = length text - i
+μ-loop t alphabet options text s₀ s = left (s .why) (s .took) (length text)
 
 -- ---- what is known in a turn
 
 abbrev start : tie.At-loop Inv-loop μ-loop → tie.Start Inv-loop μ-loop
-start h = h .before .before .before
+start h = h .before .before
 
 known : (h : tie.At-loop Inv-loop μ-loop) → start h .args .alphabet < 6
 known h = allowed-alphabet _ _ (start h .pre .1 .0)
 
-inside : (b : tie.In-loop Inv-loop μ-loop) → b .before .loop .i < length (start (b .before) .args .text .now)
-inside b = b .loop-test .taken
+so-far : (h : tie.At-loop Inv-loop μ-loop) → let s = start h in Counted (s .args .alphabet) (s .args .options) (s .args .text .now)
+    (s .args .start) (h .loop .s)
+so-far h = h .loop .inv
 
-ready : (b : tie.In-loop Inv-loop μ-loop) → Fit (start (b .before) .args .alphabet) (b .before .loop .k)
-ready b = let h = b .before in fit (known h) (h .loop .inv .loop) (start h .pre .1 .1) (inside b)
+abbrev head : tie.After-part-end Inv-loop μ-loop → tie.At-loop Inv-loop μ-loop
+head e = e .before .before .before
 
--- the byte is a digit as it stands
-digit : (v : tie.After-v Inv-loop μ-loop)
-    → let h = v .before .before .before .before .before in Stands (start h .args .alphabet) (start h .args .options) (stateOf (h .loop .k)) (getD (start h .args .text .now) (h .loop .i) 0) (v .v .given .0 .0)
-digit v =
-    let l = v .before .before in
-    let b = l .before in
-    let h = b .before .before in
-    let s = start h in
-    plain-digit _ _ (getD (s .args .text .now) (h .loop .i) 0) (stateOf (h .loop .k)) (s .pre .0) (s .pre .1 .0) (omega (arith, b .shared-slice-known2 .given (h .loop .i))) (sym (l .lookup .ensures) ∙ v .v .given .1)
+going : (c : tie.Then1 Inv-loop μ-loop) → let h = c .before .before in
+    (h .loop .s .why ≡ W.All) × (h .loop .s .took < length (start h .args .text .now))
+going c = goes-on _ _ _ (sym (c .before .goes-on .ensures) ∙ c .if1 .taken)
 
--- what the byte does, asked of `on_digit` or of `rare`
-by-digit : (m : tie.After-on-digit Inv-loop μ-loop)
-    → let h = m .before .before .before .before .before .before .before in stepOf (m .on-digit .result) ≡ step (start h .args .alphabet) (start h .args .options) (stateOf (h .loop .k)) (getD (start h .args .text .now) (h .loop .i) 0)
-by-digit m =
-    m .on-digit .ensures ∙ sym (digit (m .before .before) .is)
+counting : (e : tie.After-part-end Inv-loop μ-loop)
+    → let h = head e in let s = start h in Counting (s .args .alphabet) (s .args .options) (s .args .text .now) (s .args .start)
+    (h .loop .s .core) (h .loop .s .took) (h .loop .s .wrote) (so-far h .wrote)
+counting e = so-far (head e) .goes (going (e .before) .0)
 
-by-rule : (m : tie.After-rare Inv-loop μ-loop)
-    → let h = m .before .before .before .before .before in stepOf (m .rare .result) ≡ step (start h .args .alphabet) (start h .args .options) (stateOf (h .loop .k)) (getD (start h .args .text .now) (h .loop .i) 0)
-by-rule m =
-    m .rare .ensures
+abbrev end : tie.After-counted Inv-loop μ-loop → tie.After-part-end Inv-loop μ-loop
+end y = y .before .before
+
+fits : (y : tie.After-counted Inv-loop μ-loop)
+    → let e = end y in let i = head e .loop .s .took in
+    length (take (e .part-end .result - i) (drop i (start (head e) .args .text .now))) ≤ 256
+fits y = let e = end y in omega (arith, part-size (counting e) (e .part-end .ensures), e .part-end .ensures .small)
+
+next : (y : tie.After-counted Inv-loop μ-loop)
+    → let h = head (end y) in let s = start h in Counted (s .args .alphabet) (s .args .options) (s .args .text .now) (s .args .start)
+    (thenAs (h .loop .s) (y .counted .result))
+next y =
+    let e = end y in
+    let h = head e in
+    counted-then (h .loop .s) (known h) (counting e) (e .part-end .ensures) refl (fits y) (y .counted .ensures)
 
 -- ---- the needs
 
-bits-requires : tie.Need-bits-requires Inv-loop μ-loop
-bits-requires c κs = search needs
-
 loop-holds : tie.Need-loop-holds Inv-loop μ-loop
-loop-holds c = tally-begins _ _ _ _ (c .before .before .pre .1 .1)
+loop-holds c = counted-begins refl (c .before .pre .1 .1)
 
-shared-slice-read-byte : tie.Need-shared-slice-read-byte Inv-loop μ-loop
-shared-slice-read-byte c = search needs
+goes-on-requires : tie.Need-goes-on-requires Inv-loop μ-loop
+goes-on-requires c κs = search needs
 
-lookup-requires : tie.Need-lookup-requires Inv-loop μ-loop
-lookup-requires c κs = search needs
+part-end-requires : tie.Need-part-end-requires Inv-loop μ-loop
+part-end-requires c κs = going c .1
 
-enum-known-v : tie.Need-enum-known-v Inv-loop μ-loop
-enum-known-v c = search needs
+sub-counted : tie.Need-sub-counted Inv-loop μ-loop
+sub-counted c = omega (arith, c .part-end .ensures .begins)
 
-on-digit-requires : tie.Need-on-digit-requires Inv-loop μ-loop
-on-digit-requires c κs =
-    let b = c .before .before .before .before .before in
-    (b .before .before .bits .ensures, (known (b .before), (ready b, digit (c .before) .small)))
+part-counted-start : tie.Need-part-counted-start Inv-loop μ-loop
+part-counted-start c = omega (arith, c .part-end .ensures .begins)
 
-enum-known-c : tie.Need-enum-known-c Inv-loop μ-loop
-enum-known-c c = search needs
+part-counted-end : tie.Need-part-counted-end Inv-loop μ-loop
+part-counted-end c = omega (arith, c .part-end .ensures .within)
 
-add-i : tie.Need-add-i Inv-loop μ-loop
-add-i c = search needs
+counted-requires : tie.Need-counted-requires Inv-loop μ-loop
+counted-requires c κs =
+    let e = c .before in
+    let s = start (head e) in
+    (s .pre .0, (s .pre .1 .0, part-ready (counting e) (e .part-end .ensures) (s .pre .1 .1)))
+
+then-requires : tie.Need-then-requires Inv-loop μ-loop
+then-requires c κs =
+    let h = head (end c) in
+    let n = counted-sums (known h) (next c) in
+    (omega (arith, n .0, start h .pre .1 .1 .within, limit-small), omega (arith, n .1, start h .pre .1 .1 .within, limit-small))
 
 loop-less : tie.Need-loop-less Inv-loop μ-loop
-loop-less c = search needs
+loop-less c =
+    let y = c .before in
+    let e = end y in
+    let h = head e in
+    let g = going (e .before) in
+    left-less (h .loop .s) (y .counted .result) (length (start h .args .text .now)) (g .0) (g .1) (c .then .ensures)
+    (counted-some (h .loop .s) (known h) (counting e) (e .part-end .ensures) refl (fits y) (y .counted .ensures))
 
 loop-again : tie.Need-loop-again Inv-loop μ-loop
 loop-again c =
-    let m = c .before .before .before in
-    let b = m .before .before .before .before .before .before in
-    let h = b .before in
-    tally-takes (known h) (h .loop .inv) (b .loop-test .taken) (by-digit m) (c .before .c .given .1)
-
-enum-known-c-2 : tie.Need-enum-known-c-2 Inv-loop μ-loop
-enum-known-c-2 c = search needs
-
-add-n : tie.Need-add-n Inv-loop μ-loop
-add-n c = let h = c .before .before .before .before .before .before .before .before .before .before in omega (arith, h .loop .inv .behind)
-
-add-i-2 : tie.Need-add-i-2 Inv-loop μ-loop
-add-i-2 c = search needs
-
-loop-less-2 : tie.Need-loop-less-2 Inv-loop μ-loop
-loop-less-2 c = search needs
-
-loop-again-2 : tie.Need-loop-again-2 Inv-loop μ-loop
-loop-again-2 c =
-    let m = c .before .before .before in
-    let b = m .before .before .before .before .before .before in
-    let h = b .before in
-    tally-gives (known h) (h .loop .inv) (b .loop-test .taken) (by-digit m) (c .before .c2 .given .1)
-
-enum-known-e : tie.Need-enum-known-e Inv-loop μ-loop
-enum-known-e c = search needs
+    let y = c .before in
+    let s = start (head (end y)) in
+    subst (Counted (s .args .alphabet) (s .args .options) (s .args .text .now) (s .args .start)) (sym (c .then .ensures)) (next y)
 
 returns : tie.Need-returns Inv-loop μ-loop
-returns c =
-    let m = c .before .before .before in
-    let b = m .before .before .before .before .before .before in
-    let h = b .before in
-    (loop-refused (known h) (h .loop .inv .loop) (inside b) (by-digit m) (c .before .e .given .1)) .is
-
-rare-requires : tie.Need-rare-requires Inv-loop μ-loop
-rare-requires c κs =
-    let b = c .before .before .before in
-    (start (b .before) .pre .0, (known (b .before), ready b))
-
-enum-known-c-3 : tie.Need-enum-known-c-3 Inv-loop μ-loop
-enum-known-c-3 c = search needs
-
-add-i-3 : tie.Need-add-i-3 Inv-loop μ-loop
-add-i-3 c = search needs
-
-loop-less-3 : tie.Need-loop-less-3 Inv-loop μ-loop
-loop-less-3 c = search needs
-
-loop-again-3 : tie.Need-loop-again-3 Inv-loop μ-loop
-loop-again-3 c =
-    let m = c .before .before .before in
-    let b = m .before .before .before .before in
-    let h = b .before in
-    tally-takes (known h) (h .loop .inv) (b .loop-test .taken) (by-rule m) (c .before .c3 .given .1)
-
-enum-known-c-4 : tie.Need-enum-known-c-4 Inv-loop μ-loop
-enum-known-c-4 c = search needs
-
-add-n-2 : tie.Need-add-n-2 Inv-loop μ-loop
-add-n-2 c = let h = c .before .before .before .before .before .before .before .before in omega (arith, h .loop .inv .behind)
-
-add-i-4 : tie.Need-add-i-4 Inv-loop μ-loop
-add-i-4 c = search needs
-
-loop-less-4 : tie.Need-loop-less-4 Inv-loop μ-loop
-loop-less-4 c = search needs
-
-loop-again-4 : tie.Need-loop-again-4 Inv-loop μ-loop
-loop-again-4 c =
-    let m = c .before .before .before in
-    let b = m .before .before .before .before in
-    let h = b .before in
-    tally-gives (known h) (h .loop .inv) (b .loop-test .taken) (by-rule m) (c .before .c4 .given .1)
-
-enum-known-e-2 : tie.Need-enum-known-e-2 Inv-loop μ-loop
-enum-known-e-2 c = search needs
-
-returns-2 : tie.Need-returns-2 Inv-loop μ-loop
-returns-2 c =
-    let m = c .before .before .before in
-    let b = m .before .before .before .before in
-    let h = b .before in
-    (loop-refused (known h) (h .loop .inv .loop) (inside b) (by-rule m) (c .before .e2 .given .1)) .is
-
-returns-3 : tie.Need-returns-3 Inv-loop μ-loop
-returns-3 c = let h = c .before in loop-all (known h) (h .loop .inv .loop) (c .loop-test .left) .is
+returns c = let h = c .before .before in counted-done (known h) (so-far h) (sym (c .before .goes-on .ensures) ∙ c .if1 .left) .0
 
 pub tally-spec : {M : Type 1} → statement M
 tally-spec =
@@ -180,33 +116,14 @@ tally-spec =
     (tie.spec
     Inv-loop
     μ-loop
-    bits-requires
     loop-holds
-    shared-slice-read-byte
-    lookup-requires
-    enum-known-v
-    on-digit-requires
-    enum-known-c
-    add-i
+    goes-on-requires
+    part-end-requires
+    sub-counted
+    part-counted-start
+    part-counted-end
+    counted-requires
+    then-requires
     loop-less
     loop-again
-    enum-known-c-2
-    add-n
-    add-i-2
-    loop-less-2
-    loop-again-2
-    enum-known-e
-    returns
-    rare-requires
-    enum-known-c-3
-    add-i-3
-    loop-less-3
-    loop-again-3
-    enum-known-c-4
-    add-n-2
-    add-i-4
-    loop-less-4
-    loop-again-4
-    enum-known-e-2
-    returns-2
-    returns-3)
+    returns)
