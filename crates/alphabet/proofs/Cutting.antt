@@ -1,5 +1,5 @@
--- Cutting a string of bits into runs of b bits: what a flow has given and holds is settled by what went in, and the digits of bytes are those
--- of the full runs and the last run filled with zero bits. Assumes nothing.
+-- Cutting a string of bits into runs of b bits: the digits of bytes are those of the full runs and the last run filled with zero bits. Assumes
+-- nothing.
 use Prim.Native.Nat.{ℕ, suc, _+_, _-_, _*_, _/_, _%_, _^_, _<_, _≤_}
 use mathlib.Core.Path.{_≡_, refl, sym, ap, _∙_, subst}
 use mathlib.Core.Bool.{Bool}
@@ -15,49 +15,7 @@ use Rattle.alphabet.specs.Digits.{digitsOf}
 use Rattle.alphabet.proofs.Below.{below-append, below-snoc}
 use Rattle.alphabet.proofs.Runs.{bits-length, bits-split, bits-mod, bits-join, bits-zero, bits-value-at, value-lt, value-bits, unpack-append, unpack-length, pack-below, unpack-front, unpack-one}
 use Rattle.alphabet.proofs.DigitLaws.{spell-digits}
-use Rattle.alphabet.proofs.Flow.{Flow, out-is}
-
-module _ (m w : ℕ) (pos : 0 < w) where
-  -- the bits after what has come out, cut: their full runs come out too, and the rest is held
-  pub cut-flow : (ins outs : List ℕ) (left : List Bool) → Below (2 ^ w) outs → unpack m ins ≡ unpack w outs ++ left
-      → Flow m w ins (outs ++ pack w (length left / w) left) (length left % w) (valueOf (drop (w * (length left / w)) left))
-  cut-flow ins outs left h e =
-      let k : ℕ = length left / w in
-      let s : w * k + length left % w ≡ length left = div-add-mod (length left) w in
-      let l : length (drop (w * k) left) ≡ length left % w = length-drop (w * k) left ∙ omega arith in
-      record {
-        small = rw l at (value-lt (drop (w * k) left));
-        below = below-append (2 ^ w) outs (pack w k left) h (pack-below w k left);
-        same =
-            e
-            ∙ rw (unpack-append w outs (pack w k left), unpack-front w k left (omega arith), bits-value-at (length left % w) (drop (w * k) left) l, append-assoc, take-append-drop (w * k) left);
-      }
-
-  pub cut-start : (ins : List ℕ) → Flow m w ins (pack w (m * length ins / w) (unpack m ins)) (m * length ins % w) (valueOf (drop (w * (m * length ins / w)) (unpack m ins)))
-  unfolding unpack
-  cut-start ins = rw (unpack-length m ins) at (cut-flow ins [] (unpack m ins) tt refl)
-
-  pub flow-length : (ins outs : List ℕ) (r held : ℕ) → Flow m w ins outs r held → m * length ins ≡ w * length outs + r
-  flow-length ins outs r held f = simp (length-append, unpack-length, bits-length) at (ap length (f .same))
-
-  pub flow-count : (ins outs : List ℕ) (r held : ℕ) → r < w → Flow m w ins outs r held → m * length ins / w ≡ length outs
-  flow-count ins outs r held h f =
-      let e : m * length ins ≡ w * length outs + r = flow-length ins outs r held f in
-      let c : w * length outs ≡ length outs * w = mul-comm w (length outs) in
-      div-eq-of-lt-le w (omega arith) (omega (arith, add-mul (length outs) 1 w, one-mul w))
-
-  -- the bits held are fewer than a run's: how many there are, what they are, and what has come out, by what went in
-  pub flow-outs : (ins outs : List ℕ) (r held : ℕ) → r < w → Flow m w ins outs r held → pack w (m * length ins / w) (unpack m ins) ≡ outs
-  flow-outs ins outs r held h f = rw (flow-count ins outs r held h f) (out-is m w ins outs r held f)
-
-  pub flow-held : (ins outs : List ℕ) (r held : ℕ) → r < w → Flow m w ins outs r held → valueOf (drop (w * (m * length ins / w)) (unpack m ins)) ≡ held
-  flow-held ins outs r held h f =
-      rw (flow-count ins outs r held h f, f .same, drop-at (unpack w outs) (bitsOf r held) (w * length outs) (unpack-length w outs)) (value-bits r (f .small))
-
-  pub flow-bits : (ins outs : List ℕ) (r held : ℕ) → r < w → Flow m w ins outs r held → m * length ins % w ≡ r
-  flow-bits ins outs r held h f =
-      let q : w * (m * length ins / w) + m * length ins % w ≡ m * length ins = div-add-mod (m * length ins) w in
-      omega (arith, flow-length ins outs r held f, ap (λ (k : ℕ). w * k) (flow-count ins outs r held h f))
+use Rattle.alphabet.proofs.Flow.{Flow}
 
 module _ (b : ℕ) (src outs : List ℕ) where
   -- no bits are left: the digits are those that have come out

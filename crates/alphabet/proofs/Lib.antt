@@ -2,7 +2,6 @@ pub mod Tables
 pub mod Below
 pub mod Runs
 pub mod Flow
-pub mod BitLaws
 pub mod DigitLaws
 pub mod AlphabetLaws
 pub mod Symbols

@@ -3,8 +3,7 @@ use Prim.Native.Nat.{ℕ, _+_, _-_, _*_, _/_, _%_, _^_, _<_, _≤_}
 use mathlib.Core.Path.{_≡_, sym, ap, _∙_}
 use native.Mathlib.Omega.{arith}
 use lib.Pow.{high, low, mod-pow-add, field, mod-mod-pow}
-use Rattle.alphabet.specs.Regroup.{cutUp}
-use Rattle.alphabet.specs.declared.regroup.Cut.the-variants.{One, Two}
+use Rattle.alphabet.specs.Regroup.{One, Two, cutUp}
 use Rattle.alphabet.proofs.RegroupLaws.{rest-lt, cut-one, cut-two}
 
 -- the k low bits of the m low bits

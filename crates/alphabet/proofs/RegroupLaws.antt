@@ -6,9 +6,8 @@ use native.Mathlib.Nat.{mod-eq-of-lt, mod-lt, lt-of-lt-of-le}
 use native.Mathlib.Omega.{arith}
 use lib.Pow.{pow-pos, pow-mono, shr-lt}
 use borrow.Author.Tests.{lt-ltb, le-ltb}
-use Rattle.alphabet.specs.Regroup.{byteAnd, fed, digitsAnd, cutUp}
+use Rattle.alphabet.specs.Regroup.{One, Two, byteAnd, fed, digitsAnd, cutUp}
 use Rattle.alphabet.specs.declared.regroup.Fed.the-variants.{Held, Byte}
-use Rattle.alphabet.specs.declared.regroup.Cut.the-variants.{One, Two}
 use Rattle.alphabet.proofs.Runs.{joined-lt}
 
 -- the first w of w + n bits

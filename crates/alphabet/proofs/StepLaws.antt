@@ -7,11 +7,9 @@ use mathlib.Core.List.{List, [], _∷_, _++_}
 use native.Mathlib.Omega.{arith}
 use lib.Dec.{ltb}
 use borrow.Author.Tests.{ltb-true, ltb-false}
-use Rattle.alphabet.specs.Regroup.{fed, cutUp}
+use Rattle.alphabet.specs.Regroup.{Cut, One, Two, fed, cutUp}
 use Rattle.alphabet.specs.declared.regroup.Fed.{Fed}
 use Rattle.alphabet.specs.declared.regroup.Fed.the-variants.{Held, Byte}
-use Rattle.alphabet.specs.declared.regroup.Cut.{Cut}
-use Rattle.alphabet.specs.declared.regroup.Cut.the-variants.{One, Two}
 use Rattle.alphabet.proofs.Flow.{Flow, absorb, pass, pass-two}
 use Rattle.alphabet.proofs.RegroupLaws.{fed-held, fed-byte, cut-one, cut-two}
 

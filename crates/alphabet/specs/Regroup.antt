@@ -5,8 +5,6 @@ use mathlib.Core.Bool.{cond}
 use lib.Dec.{ltb}
 use Rattle.alphabet.specs.declared.regroup.Fed.{Fed}
 use Rattle.alphabet.specs.declared.regroup.Fed.the-variants.{Held, Byte}
-use Rattle.alphabet.specs.declared.regroup.Cut.{Cut}
-use Rattle.alphabet.specs.declared.regroup.Cut.the-variants.{One, Two}
 
 -- z has k bits: fewer than 8, which are held, or a byte and the k - 8 bits after it
 unfoldable pub byteAnd : ℕ → ℕ → Fed
@@ -15,6 +13,11 @@ byteAnd k z = cond (ltb k 8) (Held (z % 256)) (Byte (z / 2 ^ (k - 8) % 256) (z %
 -- a digit v of b bits after r bits held
 unfoldable pub fed : ℕ → ℕ → ℕ → ℕ → Fed
 fed b r held v = byteAnd (r % 8 + b % 8) (held * 2 ^ (b % 8) + v)
+
+-- after a byte: a digit, or two in order, and the bits held after them
+pub data Cut : Type 0 where
+  One : ℕ → ℕ → Cut
+  Two : ℕ → ℕ → ℕ → Cut
 
 -- z is a digit of b bits and n bits after it: fewer than b, which are held, or a second digit and the n - b bits after it
 unfoldable pub digitsAnd : ℕ → ℕ → ℕ → Cut

@@ -1,19 +1,13 @@
-// Regrouping a step at a time: a digit into the held bits, perhaps a byte out; a byte into the held bits, a digit or two out.
+// Regrouping a step at a time: a digit into the held bits, perhaps a byte out.
 // A width or a number of held bits above 7 is read modulo 8, and a result keeps its 8 low bits.
 ghost use mathlib.Core.Path.{_≡_};
 ghost use Prim.Native.Nat.{_+_, _*_, _/_, _%_, _^_, _≤_, _<_};
-ghost use Rattle.alphabet.specs.Regroup.{fed, cutUp};
+ghost use Rattle.alphabet.specs.Regroup.{fed};
 
 // After a digit: the bits held, or a byte and the bits held after it.
 pub enum Fed {
     Held(u8),
     Byte(u8, u8),
-}
-
-// After a byte: a digit, or two in order, and the bits held after them.
-pub enum Cut {
-    One(u8, u8),
-    Two(u8, u8, u8),
 }
 
 // A digit v of b bits comes after the r bits held.
@@ -28,22 +22,6 @@ pub fn feed(b: usize, r: usize, held: u8, v: u8) -> Fed
     }
     let n = k - 8;
     Fed::Byte(byte_of(high(z, n)), byte_of(low(z, n)))
-}
-
-// A byte comes after the r bits held, and is cut into digits of b bits.
-pub fn split(b: usize, r: usize, held: u8, byte: u8) -> Cut
-    ensures { λ x. ⌜ x ≡ cutUp b r held byte ⌝ }
-{
-    let w = b % 8;
-    let n = r % 8 + 8 - w;
-    let z = join(held, 8, byte);
-    let first = byte_of(high(z, n));
-    let rest = low(z, n);
-    if n < w {
-        return Cut::One(first, byte_of(rest));
-    }
-    let m = n - w;
-    Cut::Two(first, byte_of(high(rest, m)), byte_of(low(rest, m)))
 }
 
 // The bits held with w bits more after them.

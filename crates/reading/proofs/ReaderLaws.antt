@@ -10,7 +10,7 @@ use lib.ListN.{length, length-append}
 use borrow.Author.Tests.{ltb-true, ltb-false, eqb-true, eqb-false}
 use Rattle.alphabet.specs.Digits.{bytesOf, leftOf}
 use Rattle.alphabet.specs.Alphabet.{bits, group, tail, value, isDigit, isPad}
-use Rattle.alphabet.proofs.BitLaws.{Regrouped, regroup-hold, regroup-give}
+use Rattle.alphabet.proofs.Flow.{Regrouped, regroup-hold, regroup-give}
 use Rattle.alphabet.proofs.DigitLaws.{regrouped, regrouped-bytes, regrouped-left}
 use Rattle.alphabet.proofs.AlphabetLaws.{bits-high}
 use Rattle.reading.specs.Options.{anySpare}

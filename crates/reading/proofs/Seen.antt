@@ -12,7 +12,7 @@ use borrow.Author.Tests.{ltb-false}
 use Rattle.alphabet.specs.Bits.{Below}
 use Rattle.alphabet.specs.Digits.{bytesOf}
 use Rattle.alphabet.specs.Alphabet.{bits, value, digit, isDigit, isPad, pad}
-use Rattle.alphabet.proofs.BitLaws.{regroup-start}
+use Rattle.alphabet.proofs.Flow.{regroup-start}
 use Rattle.alphabet.proofs.Below.{below-snoc}
 use Rattle.alphabet.proofs.DigitLaws.{regrouped-left, regrouped-bytes}
 use Rattle.alphabet.proofs.Symbols.{IsDigit, is-digit, is-pad}

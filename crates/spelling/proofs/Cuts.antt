@@ -9,9 +9,7 @@ use lib.Dec.{ltb}
 use lib.ListN.{length}
 use borrow.Author.Tests.{ltb-true, ltb-false}
 use Rattle.alphabet.specs.Bits.{bitsOf}
-use Rattle.alphabet.specs.Regroup.{cutUp}
-use Rattle.alphabet.specs.declared.regroup.Cut.{Cut}
-use Rattle.alphabet.specs.declared.regroup.Cut.the-variants.{One, Two}
+use Rattle.alphabet.specs.Regroup.{Cut, One, Two, cutUp}
 use Rattle.alphabet.proofs.Runs.{bits-join, joined-lt}
 use Rattle.alphabet.proofs.Cutting.{pack-none, pack-bits, drop-bits, drop-no-run}
 use Rattle.alphabet.proofs.RegroupLaws.{rest-lt, cut-one, cut-two}

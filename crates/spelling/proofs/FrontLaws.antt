@@ -14,8 +14,7 @@ use Rattle.alphabet.specs.Alphabet.{bits, digit}
 use Rattle.alphabet.specs.Written.{written}
 use Rattle.alphabet.proofs.Runs.{bits-length, unpack-append, pack-length, unpack-one}
 use Rattle.alphabet.proofs.AlphabetLaws.{bits-low}
-use Rattle.alphabet.proofs.Flow.{Flow, empty}
-use Rattle.alphabet.proofs.Cutting.{cut-flow, cut-start, flow-outs, flow-held}
+use Rattle.alphabet.proofs.Flow.{Flow, empty, cut-flow, cut-start, flow-outs, flow-held}
 use Rattle.alphabet.proofs.Ends.{written-full, written-filled}
 use Rattle.spelling.specs.Front.{full, front, heldOf, ending, rest}
 use Rattle.spelling.specs.Machine.{waiting, fullRuns, completes, keeps}
