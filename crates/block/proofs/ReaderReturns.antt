@@ -10,10 +10,11 @@ use Rattle.answer.specs.declared.Outcome.the-variants as O
 use Rattle.answer.specs.Told.{number, position, told}
 use Rattle.reading.specs.Options.{allowed}
 use Rattle.reading.specs.Reader.{fresh}
-use Rattle.engine.specs.declared.rule.Core.{Core}
+use Rattle.rule.specs.declared.Core.{Core}
 use Rattle.engine.specs.declared.piece.Ran.{Ran}
 use Rattle.reading.specs.Buffer.{filled}
-use Rattle.engine.specs.Ran.{coreOf, runAs, runBytes, freshAs, freshBytes}
+use Rattle.rule.specs.Meaning.{coreOf}
+use Rattle.engine.specs.Ran.{runAs, runBytes, freshAs, freshBytes}
 use Rattle.block.specs.Calls.{ReadAs, InPlaceAs}
 use Rattle.block.specs.Answered.{answered}
 use Rattle.block.specs.Room.{neededOf}

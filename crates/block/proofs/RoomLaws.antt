@@ -14,7 +14,8 @@ use Rattle.reading.specs.Reader.{fresh, judged}
 use Rattle.reading.proofs.OptionLaws.{allowed-alphabet}
 use Rattle.reading.proofs.GoodCount.{good-most}
 use Rattle.engine.specs.declared.piece.Ran.{Ran}
-use Rattle.engine.specs.Ran.{coreOf, freshAs, runAs, runBytes}
+use Rattle.rule.specs.Meaning.{coreOf}
+use Rattle.engine.specs.Ran.{freshAs, runAs, runBytes}
 use Rattle.engine.proofs.FromFresh.{run-fresh, run-fresh-bytes, fresh-runs}
 use Rattle.block.specs.Whole.{choice, noRoom, readOf, readBytes}
 use Rattle.block.specs.Answered.{answered}

@@ -2,11 +2,11 @@
 use Prim.Native.Nat.{ℕ}
 use Rattle.answer.specs.Told.{Told}
 use Rattle.reading.specs.Reader.{ending}
-use Rattle.engine.specs.declared.rule.Core.{Core}
+use Rattle.rule.specs.declared.Core.{Core}
 use Rattle.engine.specs.declared.piece.Why.{Why}
 use Rattle.engine.specs.declared.piece.Why.the-variants as W
 use Rattle.engine.specs.declared.piece.Ran.{Ran}
-use Rattle.engine.specs.Meaning.{stateOf, number}
+use Rattle.rule.specs.Meaning.{stateOf, number}
 use Rattle.block.specs.Whole.{choice, noRoom}
 
 -- all is read: the answer at the end; a byte is refused: the kind; the room is full: 3; the choice is none: 1

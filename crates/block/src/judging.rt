@@ -5,12 +5,12 @@ use answer::Outcome;
 use answer::Place;
 use engine::piece::Ran;
 use engine::piece::Why;
-use engine::rule::Cause;
-use engine::rule::End;
+use rule::Cause;
+use rule::End;
 ghost use mathlib.Core.Path.{_≡_};
 ghost use Rattle.answer.specs.Told as Told;
 ghost use Rattle.answer.specs.Told.{told};
-ghost use Rattle.engine.specs.Meaning as Engine;
+ghost use Rattle.rule.specs.Meaning as Engine;
 ghost use Rattle.block.specs.Answered.{answered};
 ghost use Rattle.block.specs.Calls.{JudgeAs};
 
@@ -40,7 +40,7 @@ pub fn outcome(alphabet: usize, options: usize, ran: Ran) -> Outcome
     let place = Place(taken);
     let count = Count(wrote);
     match why {
-        Why::All => match engine::rule::ending(alphabet, options, core) {
+        Why::All => match rule::ending(alphabet, options, core) {
             End::Whole => Outcome::Accepted(place, count),
             End::Refused(cause) => Outcome::Refused(kind(cause, place), count),
         },

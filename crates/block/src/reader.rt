@@ -40,12 +40,12 @@ fn needed(alphabet: usize, options: usize, text: &[u8], room: usize) -> usize
 pub fn read(alphabet: usize, options: usize, text: &[u8], out: &mut [u8]) -> Outcome
     ensures { λ r. ⌜ ReadAs alphabet options (now (text .entry)) (now (out .entry)) r (now (out .exit)) ⌝ }
 {
-    if engine::choice::allowed(alphabet, options) {
+    if rule::choice::allowed(alphabet, options) {
         let need = needed(alphabet, options, text, out.len());
         if out.len() < need {
             return Outcome::Refused(Kind::NoRoom(Place(0)), Count(need));
         }
-        let start = engine::piece::fresh();
+        let start = rule::state::fresh();
         let ran = engine::piece::run(alphabet, options, start, text, out);
         return outcome(alphabet, options, ran);
     }

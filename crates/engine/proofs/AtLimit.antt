@@ -22,12 +22,16 @@ use Rattle.reading.proofs.LimitLaws.{limit-small}
 use Rattle.reading.proofs.StepLaws.{fresh-sound}
 use Rattle.reading.proofs.RunRoom.{run-room}
 use Rattle.reading.proofs.PieceLaws.{run-feeds}
-use Rattle.engine.specs.declared.rule.Core.{Core}
+use Rattle.rule.specs.declared.Core.{Core}
+use Rattle.rule.proofs.Readiness.{IsReady}
 use Rattle.engine.specs.declared.piece.Ran.{Ran}
-use Rattle.engine.specs.Meaning.{stateOf}
+use Rattle.rule.specs.Meaning.{stateOf}
 use Rattle.reading.specs.Buffer.{filled}
-use Rattle.engine.specs.Ran.{causeOf, whyAs, goesOn, ranAs, below, limited, Ready, ready, small, unfit, runAs, runBytes, freshAs}
-use Rattle.engine.specs.Ran.{freshBytes, coreOf}
+use Rattle.rule.specs.Meaning.{causeOf}
+use Rattle.rule.specs.State.{ready, small}
+use Rattle.engine.specs.Ran.{whyAs, goesOn, ranAs, below, limited, Ready, unfit, runAs, runBytes, freshAs}
+use Rattle.rule.specs.Meaning.{coreOf}
+use Rattle.engine.specs.Ran.{freshBytes}
 
 -- ---- what lies below the limit
 
@@ -100,42 +104,12 @@ module _ (a opts : ℕ) (piece : List ℕ) (s : State) (room : ℕ) where
       go true e = refl
       go false e = rw (take-length piece)
 
--- ---- the test of a state
-
-and-two : (p q : Bool) → p && q ≡ true → (p ≡ true) × (q ≡ true)
-and-two true q e = (refl, e)
-and-two false q e = absurd (subst T (sym e) tt)
-
-pub record IsReady (a opts : ℕ) (k : Core) : Type 0 where
-  pub choice : allowed a opts ≡ true
-  pub taken : k .taken ≤ limit
-  pub sound : Sound a (stateOf k)
-
-pub is-ready : (a opts : ℕ) (k : Core) → ready a opts k ≡ true → IsReady a opts k
-unfolding ready small heldBits
-is-ready a opts k e =
-    let p = and-two (allowed a opts && leb (k .taken) limit && leb (k .digits) (k .taken) && leb (k .pads) (k .taken)) _ e in
-    let q = and-two (allowed a opts && leb (k .taken) limit && leb (k .digits) (k .taken)) _ (p .0) in
-    let r = and-two (allowed a opts && leb (k .taken) limit) _ (q .0) in
-    let s = and-two (allowed a opts) _ (r .0) in
-    record {
-      choice = s .0;
-      taken = leb-true _ _ (s .1);
-      sound = record { held = ltb-true _ _ (p .1); digits = leb-true _ _ (r .1); pads = leb-true _ _ (q .1) };
-    }
-
 -- m bytes below the limit can be read from such a state
 pub ready-for : {a opts : ℕ} {k : Core} {m : ℕ} → IsReady a opts k → m ≤ limit - k .taken → Ready a k m
 ready-for {k = k} r l = record { sound = r .sound; within = omega (arith, r .taken) }
 
 pub fresh-ready : (a m : ℕ) → m ≤ limit → Ready a (coreOf fresh) m
 fresh-ready a m l = record { sound = fresh-sound a; within = omega arith }
-
-pub small-product : (a d : ℕ) → a < 6 → d ≤ limit → bits a * d < 2 ^ 40
-small-product a d h l = omega (arith, mul-le-mul-right d (bits-high a h), limit-small)
-
-pub one-shifted : (b d : ℕ) → (1 * 2 ^ (b * d % 8)) % 2 ^ 64 ≡ 2 ^ (b * d % 8)
-one-shifted b d = shl-exact 1 (b * d % 8) 64 (omega arith) (omega arith) ∙ one-mul (2 ^ (b * d % 8))
 
 -- ---- a piece from any state
 

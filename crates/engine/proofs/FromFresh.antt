@@ -18,8 +18,10 @@ use Rattle.reading.specs.Reader.{fresh}
 use Rattle.reading.specs.Piece as P
 use Rattle.reading.specs.Piece.{runPiece}
 use Rattle.engine.specs.declared.piece.Why.the-variants as W
-use Rattle.engine.specs.Meaning.{number}
-use Rattle.engine.specs.Ran.{coreOf, causeOf, whyAs, ranAs, unfit, small, ready, runAs, runBytes, freshAs, freshBytes}
+use Rattle.rule.specs.Meaning.{number}
+use Rattle.rule.specs.Meaning.{coreOf, causeOf}
+use Rattle.rule.specs.State.{small, ready}
+use Rattle.engine.specs.Ran.{whyAs, ranAs, unfit, runAs, runBytes, freshAs, freshBytes}
 
 -- ---- why a run stopped
 

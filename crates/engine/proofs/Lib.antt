@@ -1,4 +1,3 @@
-pub mod ByCases
 pub mod Steps
 pub mod Bytes
 pub mod Loops
@@ -8,4 +7,3 @@ pub mod Parts
 pub mod AtLimit
 pub mod FromFresh
 pub mod States
-pub mod Determined

@@ -12,16 +12,19 @@ use Rattle.reading.specs.Sound.{Sound}
 use Rattle.reading.specs.Piece.{after, run}
 use Rattle.reading.proofs.StepLaws.{Next, Keeps, keeps}
 use Rattle.reading.proofs.RunSteps.{Going, after-after, begins, goes-on, gives-one, is-full, is-refused, is-all}
-use Rattle.engine.specs.declared.rule.Core.{Core}
-use Rattle.engine.specs.declared.rule.Cause.{Cause}
-use Rattle.engine.specs.declared.rule.Cause.the-variants as C
-use Rattle.engine.specs.declared.rule.Took.{Took}
-use Rattle.engine.specs.declared.rule.Took.the-variants.{Takes, Gives, Refuses}
+use Rattle.rule.specs.declared.Core.{Core}
+use Rattle.rule.specs.declared.Cause.{Cause}
+use Rattle.rule.specs.declared.Cause.the-variants as C
+use Rattle.rule.proofs.Causes.{cause-back}
+use Rattle.engine.specs.declared.step.Took.{Took}
+use Rattle.engine.specs.declared.step.Took.the-variants.{Takes, Gives, Refuses}
 use Rattle.engine.specs.declared.piece.Why.the-variants as W
 use Rattle.engine.specs.declared.piece.Ran.{Ran}
-use Rattle.engine.specs.Meaning.{stateOf, stepOf, number, Fit}
+use Rattle.rule.specs.Meaning.{stateOf, number}
+use Rattle.engine.specs.Meaning.{stepOf, Fit}
 use Rattle.reading.specs.Buffer.{filled}
-use Rattle.engine.specs.Ran.{causeOf, whyAs, ranAs, Ready}
+use Rattle.rule.specs.Meaning.{causeOf}
+use Rattle.engine.specs.Ran.{whyAs, ranAs, Ready}
 use Rattle.engine.specs.Loop.{Loop, Filling}
 
 module _ {a opts : ℕ} {piece : List ℕ} {start : Core} {room : ℕ} {k : Core} {i n : ℕ} {wrote : List ℕ} where
@@ -34,15 +37,6 @@ module _ {a opts : ℕ} {piece : List ℕ} {start : Core} {room : ℕ} {k : Core
 
 pub loop-begins : (a opts : ℕ) (piece : List ℕ) (k : Core) (room : ℕ) → Ready a k (length piece) → Loop a opts piece k room k 0 0 []
 loop-begins a opts piece k room r = looped (begins a opts piece (stateOf k) room) (r .sound) (sym (add-zero (k .taken)))
-
-pub cause-back : (c : Cause) → causeOf (number c) ≡ c
-unfolding causeOf number
-cause-back C.TooLong = refl
-cause-back C.Foreign = refl
-cause-back C.PadPlace = refl
-cause-back C.Spare = refl
-cause-back C.AfterPad = refl
-cause-back C.Short = refl
 
 -- the run is over: what the code returns is what the definition gives
 pub record Done (a opts : ℕ) (piece : List ℕ) (start : Core) (room : ℕ) (r : Ran) (wrote : List ℕ) : Type 0 where

@@ -16,11 +16,12 @@ use Rattle.reading.proofs.RunRoom.{run-room}
 use Rattle.reading.proofs.RunSound.{run-sound}
 use Rattle.reading.proofs.PieceCuts.{run-cut, run-stops}
 use Rattle.reading.proofs.PieceLaws.{RunFeeds, run-feeds}
-use Rattle.engine.specs.declared.rule.Core.{Core}
+use Rattle.rule.specs.declared.Core.{Core}
 use Rattle.engine.specs.declared.piece.Why.the-variants as W
 use Rattle.engine.specs.declared.piece.Ran.{Ran}
-use Rattle.engine.specs.Meaning.{stateOf}
-use Rattle.engine.specs.Ran.{coreOf, whyAs, goesOn, thenAs, ranAs, Ready}
+use Rattle.rule.specs.Meaning.{stateOf}
+use Rattle.rule.specs.Meaning.{coreOf}
+use Rattle.engine.specs.Ran.{whyAs, goesOn, thenAs, ranAs, Ready}
 use Rattle.engine.specs.Loop.{Loop, Part}
 use Rattle.engine.proofs.Loops.{loop-begins, loop-all, rest-all, stored-lent}
 use Rattle.engine.proofs.Reaching.{all-or-not, goes-no-more, full-not-all, refused-not-all, then-after, all-is}

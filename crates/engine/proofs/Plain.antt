@@ -22,10 +22,11 @@ use Rattle.reading.proofs.LimitLaws.{limit-small}
 use Rattle.reading.proofs.OptionLaws.{strict-allowed}
 use Rattle.reading.proofs.StepLaws.{held-then, left-then}
 use Rattle.reading.proofs.StepCases.{Stands, stands}
-use Rattle.engine.specs.declared.rule.Core.{Core}
-use Rattle.engine.specs.declared.rule.Took.the-variants.{Takes, Gives}
+use Rattle.rule.specs.declared.Core.{Core}
+use Rattle.engine.specs.declared.step.Took.the-variants.{Takes, Gives}
 use Rattle.engine.specs.declared.digits.Passed.{Passed}
-use Rattle.engine.specs.Meaning.{stateOf, Fit}
+use Rattle.rule.specs.Meaning.{stateOf}
+use Rattle.engine.specs.Meaning.{Fit}
 use Rattle.engine.specs.Ran.{Ready}
 use Rattle.engine.specs.Loop.{Filling, Passes, coreAt, passedAs}
 use Rattle.engine.proofs.Steps.{digit-held, digit-gives}

@@ -13,16 +13,18 @@ use Rattle.reading.specs.Reader.{gives, step}
 use Rattle.reading.specs.Piece as P
 use Rattle.reading.specs.Piece.{after, run}
 use Rattle.reading.proofs.PieceLaws.{run-feeds}
-use Rattle.engine.specs.declared.rule.Core.{Core}
-use Rattle.engine.specs.declared.rule.Cause.{Cause}
-use Rattle.engine.specs.declared.rule.Took.{Took}
-use Rattle.engine.specs.declared.rule.Took.the-variants.{Takes, Gives, Refuses}
+use Rattle.rule.specs.declared.Core.{Core}
+use Rattle.rule.specs.declared.Cause.{Cause}
+use Rattle.engine.specs.declared.step.Took.{Took}
+use Rattle.engine.specs.declared.step.Took.the-variants.{Takes, Gives, Refuses}
 use Rattle.engine.specs.declared.digits.Passed.{Passed}
 use Rattle.engine.specs.declared.piece.Why.{Why}
 use Rattle.engine.specs.declared.piece.Why.the-variants as W
 use Rattle.engine.specs.declared.piece.Ran.{Ran}
-use Rattle.engine.specs.Meaning.{stateOf, stepOf}
-use Rattle.engine.specs.Ran.{coreOf, whyAs, goesOn, thenAs, ranAs, Ready}
+use Rattle.rule.specs.Meaning.{stateOf}
+use Rattle.engine.specs.Meaning.{stepOf}
+use Rattle.rule.specs.Meaning.{coreOf}
+use Rattle.engine.specs.Ran.{whyAs, goesOn, thenAs, ranAs, Ready}
 use Rattle.engine.specs.Loop.{Filling, Reached, Stretch, putAs, putIn}
 use Rattle.engine.proofs.Loops.{filling-begins, filling-lent, filling-takes, filling-gives, filling-done, same-size, loop-full}
 use Rattle.engine.proofs.Loops.{loop-refused, loop-all, rest-all, stored-lent}

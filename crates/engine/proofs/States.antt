@@ -11,11 +11,13 @@ use Rattle.reading.specs.Limit.{limit}
 use Rattle.reading.specs.Reader.{State, wants, heldBits}
 use Rattle.reading.specs.Sound.{Sound}
 use Rattle.reading.specs.Piece.{runPiece}
-use Rattle.engine.specs.declared.rule.Core.{Core}
-use Rattle.engine.specs.declared.rule.Cause.{Cause}
-use Rattle.engine.specs.declared.rule.Cause.the-variants as C
-use Rattle.engine.specs.Meaning.{stateOf, number}
-use Rattle.engine.specs.Ran.{causeOf, ranAs, small, ready, runAs, runBytes}
+use Rattle.rule.specs.declared.Core.{Core}
+use Rattle.rule.specs.declared.Cause.{Cause}
+use Rattle.rule.specs.declared.Cause.the-variants as C
+use Rattle.rule.specs.Meaning.{stateOf, number}
+use Rattle.rule.specs.Meaning.{causeOf}
+use Rattle.rule.specs.State.{small, ready}
+use Rattle.engine.specs.Ran.{ranAs, runAs, runBytes}
 
 -- ---- states
 

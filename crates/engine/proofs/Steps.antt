@@ -13,8 +13,9 @@ use Rattle.alphabet.proofs.AlphabetLaws.{bits-high}
 use Rattle.alphabet.proofs.RegroupLaws.{fed-held, fed-byte}
 use Rattle.reading.specs.Reader.{takes, gives, heldBits, onDigit}
 use Rattle.reading.proofs.LimitLaws.{limit-small}
-use Rattle.engine.specs.declared.rule.Core.{Core}
-use Rattle.engine.specs.Meaning.{stateOf, Fit}
+use Rattle.rule.specs.declared.Core.{Core}
+use Rattle.rule.specs.Meaning.{stateOf}
+use Rattle.engine.specs.Meaning.{Fit}
 
 module _ (a : ℕ) (h : a < 6) (k : Core) (f : Fit a k) where
   -- the sums of a state fit their types

@@ -9,13 +9,13 @@ use Rattle.reading.specs.Options.{allowed}
 use Rattle.reading.specs.Sound.{Sound}
 use Rattle.reading.specs.Buffer.{filled}
 use Rattle.reading.specs.Piece.{after, run}
-use Rattle.engine.specs.declared.rule.Core.{Core}
-use Rattle.engine.specs.declared.rule.Took.{Took}
-use Rattle.engine.specs.declared.rule.Took.the-variants as T
+use Rattle.rule.specs.declared.Core.{Core}
+use Rattle.engine.specs.declared.step.Took.{Took}
+use Rattle.engine.specs.declared.step.Took.the-variants as T
 use Rattle.engine.specs.declared.digits.Passed.{Passed}
 use Rattle.engine.specs.declared.piece.Why.the-variants as W
 use Rattle.engine.specs.declared.piece.Ran.{Ran}
-use Rattle.engine.specs.Meaning.{stateOf}
+use Rattle.rule.specs.Meaning.{stateOf}
 use Rattle.engine.specs.Ran.{ranAs}
 
 -- i bytes are taken and the n bytes `wrote` are given, and what is left is the run of the rest from the state k into the room that is left

@@ -12,20 +12,14 @@ use Rattle.reading.specs.Reader.{State, fresh}
 use Rattle.reading.specs.Sound.{Sound}
 use Rattle.reading.specs.Piece as P
 use Rattle.reading.specs.Piece.{runPiece}
-use Rattle.engine.specs.declared.rule.Core.{Core}
-use Rattle.engine.specs.declared.rule.Cause.{Cause}
-use Rattle.engine.specs.declared.rule.Cause.the-variants as C
+use Rattle.rule.specs.declared.Core.{Core}
+use Rattle.rule.specs.declared.Cause.{Cause}
+use Rattle.rule.specs.declared.Cause.the-variants as C
 use Rattle.engine.specs.declared.piece.Why.{Why}
 use Rattle.engine.specs.declared.piece.Why.the-variants as W
 use Rattle.engine.specs.declared.piece.Ran.{Ran}
-use Rattle.engine.specs.Meaning.{stateOf}
-
-abbrev pub coreOf : State → Core
-coreOf s = record { digits = s .digits; held = s .held; pads = s .pads; taken = s .taken }
-
--- the refusal of 01's number
-unfoldable pub causeOf : ℕ → Cause
-causeOf k = getD (C.TooLong ∷ C.TooLong ∷ C.TooLong ∷ C.TooLong ∷ C.Foreign ∷ C.PadPlace ∷ C.Spare ∷ C.AfterPad ∷ C.Short ∷ []) k C.TooLong
+use Rattle.rule.specs.Meaning.{stateOf, coreOf, causeOf}
+use Rattle.rule.specs.State.{ready}
 
 unfoldable pub whyAs : P.Why → Why
 whyAs P.all = W.All
@@ -59,15 +53,6 @@ limited r len =
 pub record Ready (a : ℕ) (k : Core) (m : ℕ) : Type 0 where
   pub sound : Sound a (stateOf k)
   pub within : k .taken + m ≤ limit
-
--- the held bits are as many as the digits leave
-unfoldable pub small : ℕ → ℕ → ℕ → Bool
-small a digits held = ltb held (2 ^ (bits a * digits % 8))
-
--- the test of a choice and a state
-unfoldable pub ready : ℕ → ℕ → Core → Bool
-ready a opts k =
-    allowed a opts && leb (k .taken) limit && leb (k .digits) (k .taken) && leb (k .pads) (k .taken) && small a (k .digits) (k .held)
 
 -- nothing was done
 abbrev pub unfit : Core → Ran

@@ -1,6 +1,6 @@
 // Digits as they stand, the one loop over bytes that has to be fast: up to the first byte that is no digit, or that completes a byte without
 // room. It works on numbers alone, and is compiled once for each width.
-use crate::rule::Core;
+use rule::Core;
 ghost use Prim.Native.Nat.{_+_, _<_, _^_};
 ghost use mathlib.Core.Path.{_≡_};
 ghost use lib.ListN.{length};

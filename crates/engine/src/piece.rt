@@ -1,12 +1,14 @@
 // The loops over a piece: into a second buffer, in place, and counting alone. Each takes the table once, and asks `on_digit` for a byte that
 // is a digit as it stands and `rare` for any other, so that the common byte costs no call.
-use crate::choice::allowed;
+use rule::choice::allowed;
 use crate::digits::Passed;
 use crate::digits::pass;
-use crate::rule::Cause;
-use crate::rule::Core;
-use crate::rule::Took;
-use crate::rule::rare;
+use rule::Cause;
+use rule::Core;
+use rule::state::fresh;
+use rule::state::ready;
+use crate::step::Took;
+use crate::step::rare;
 pub use reading::limit;
 ghost use Prim.Native.Nat.{_+_, _<_, _≤_, _^_};
 ghost use mathlib.Core.Path.{_≡_};
@@ -16,7 +18,7 @@ ghost use Rattle.alphabet.specs.Table.{entries};
 ghost use Rattle.reading.specs.Options as Options;
 ghost use Rattle.reading.specs.Limit as Limit;
 ghost use Rattle.reading.specs.Piece as Piece;
-ghost use Rattle.engine.specs.Meaning.{stateOf};
+ghost use Rattle.rule.specs.Meaning.{stateOf};
 ghost use Rattle.engine.specs.Ran as Spec;
 ghost use Rattle.reading.specs.Buffer.{filled};
 ghost use Rattle.engine.specs.Ran.{Ready, ranAs};
@@ -38,17 +40,7 @@ pub struct Ran {
     pub wrote: usize,
 }
 
-// The state before any text.
-pub fn fresh() -> Core
-    ensures { λ r. ⌜ r ≡ record { digits = 0; held = 0; pads = 0; taken = 0 } ⌝ }
-{
-    Core {
-        digits: 0,
-        held: 0,
-        pads: 0,
-        taken: 0,
-    }
-}
+
 
 // A run, and one more after it: the counts are added.
 fn then(first: Ran, next: Ran) -> Ran
@@ -263,38 +255,6 @@ fn settle(t: &[u8; 1536], alphabet: usize, options: usize, start: Core, buf: &mu
         s = then(s, r);
     }
     s
-}
-
-// Whether the held bits are as many as the digits leave.
-fn small(alphabet: usize, digits: usize, held: u8) -> bool
-    requires { ⌜ alphabet < 6 ⌝ }
-    requires { ⌜ digits ≤ Limit.limit ⌝ }
-    ensures { λ r. ⌜ r ≡ Spec.small alphabet digits held ⌝ }
-{
-    let b = alphabet::sizes::bits(alphabet);
-    let r = b * digits % 8;
-    let w: usize = 1 << r;
-    (held as usize) < w
-}
-
-// Whether the choice is allowed and the state is one that reading can go on from.
-pub fn ready(alphabet: usize, options: usize, k: Core) -> bool
-    ensures { λ r. ⌜ r ≡ Spec.ready alphabet options k ⌝ }
-{
-    let digits = k.digits;
-    let held = k.held;
-    let pads = k.pads;
-    let taken = k.taken;
-    if allowed(alphabet, options) {
-        if taken <= limit() {
-            if digits <= taken {
-                if pads <= taken {
-                    return small(alphabet, digits, held);
-                }
-            }
-        }
-    }
-    false
 }
 
 // How many of so many bytes lie below the limit.

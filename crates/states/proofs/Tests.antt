@@ -7,11 +7,11 @@ use lib.Dec.{T, eqb, leb}
 use borrow.Author.Tests.{le-leb, lt-leb, eqb-true, eqb-false, eq-eqb, ne-eqb}
 use Rattle.reading.specs.Options.{lines, blank}
 use Rattle.reading.specs.Cleaning.{dropped}
-use Rattle.engine.specs.declared.rule.Core.{Core}
-use Rattle.engine.specs.Meaning.{stateOf}
-use Rattle.engine.specs.Ran.{ready}
-use Rattle.engine.proofs.ByCases.{drops-13, drops-32}
-use Rattle.engine.proofs.AtLimit.{is-ready}
+use Rattle.rule.specs.declared.Core.{Core}
+use Rattle.rule.specs.Meaning.{stateOf}
+use Rattle.rule.specs.State.{ready}
+use Rattle.rule.proofs.ByCases.{drops-13, drops-32}
+use Rattle.rule.proofs.Readiness.{is-ready}
 use Rattle.engine.proofs.States.{sound-ready}
 use Rattle.streaming.specs.Stream.{Status}
 use Rattle.streaming.specs.Given.{countsFit, padsFit, readable, statusFits}

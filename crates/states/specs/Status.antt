@@ -1,5 +1,5 @@
 -- What a reader's status stands for. Assumes nothing.
-use Rattle.engine.specs.Meaning.{number}
+use Rattle.rule.specs.Meaning.{number}
 use Rattle.streaming.specs.Stream as S
 use Rattle.states.specs.declared.Status.{Status}
 use Rattle.states.specs.declared.Status.the-variants as U

@@ -1,16 +1,16 @@
 // "Answer 9 is given exactly when no sequence of calls from a start gives that state": the test of a state.
-use engine::choice::chosen;
-use engine::piece::ready;
-use engine::rule::Cause;
-use engine::rule::Core;
-use engine::rule::End;
-use engine::rule::dropped;
-use engine::rule::ending;
-use engine::rule::wants;
+use rule::choice::chosen;
+use rule::state::ready;
+use rule::Cause;
+use rule::Core;
+use rule::End;
+use rule::dropped;
+use rule::ending;
+use rule::wants;
 use reading::limit;
 ghost use mathlib.Core.Path.{_≡_};
 ghost use Rattle.reading.specs.Reader as Reader;
-ghost use Rattle.engine.specs.Meaning.{stateOf, number};
+ghost use Rattle.rule.specs.Meaning.{stateOf, number};
 ghost use Rattle.streaming.specs.Given as spec;
 ghost use Rattle.states.specs.Status.{statusOf};
 

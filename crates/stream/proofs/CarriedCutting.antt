@@ -17,7 +17,7 @@ use Rattle.streaming.specs.Calls.{finishOf}
 use Rattle.streaming.specs.Driving as D
 use Rattle.streaming.specs.Driving.{Driven, offer, drive, Offering, Refused, Settled}
 use Rattle.streaming.specs.Promises.{finishVerdict, Settles}
-use Rattle.engine.specs.Meaning.{number}
+use Rattle.rule.specs.Meaning.{number}
 use Rattle.states.specs.Status.{statusOf}
 use Rattle.stream.specs.Stepped.{streamOf, begun, finished}
 use Rattle.stream.specs.Made.{Lent, Held, begins, offerBy, driveBy, offerOf, drivenOf, ShutBy, SettledBy, verdictBy}

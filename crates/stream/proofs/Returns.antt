@@ -16,14 +16,16 @@ use Rattle.reading.specs.Piece as P
 use Rattle.reading.specs.Piece.{runPiece}
 use Rattle.reading.proofs.PieceLimit.{PieceFeeds, piece-feeds}
 use Rattle.reading.proofs.Refusals.{blame}
-use Rattle.engine.specs.declared.rule.Core.{Core}
-use Rattle.engine.specs.declared.rule.Cause.{Cause}
-use Rattle.engine.specs.declared.rule.End.{End}
-use Rattle.engine.specs.declared.rule.End.the-variants as E
+use Rattle.rule.specs.declared.Core.{Core}
+use Rattle.rule.specs.declared.Cause.{Cause}
+use Rattle.rule.specs.declared.End.{End}
+use Rattle.rule.specs.declared.End.the-variants as E
 use Rattle.engine.specs.declared.piece.Ran.{Ran}
-use Rattle.engine.specs.Meaning.{stateOf, number, endOf}
+use Rattle.rule.specs.Meaning.{stateOf, number, endOf}
 use Rattle.reading.specs.Buffer.{filled}
-use Rattle.engine.specs.Ran.{coreOf, whyAs, ranAs, ready, runAs, runBytes}
+use Rattle.rule.specs.Meaning.{coreOf}
+use Rattle.rule.specs.State.{ready}
+use Rattle.engine.specs.Ran.{whyAs, ranAs, runAs, runBytes}
 use Rattle.engine.proofs.FromFresh.{all-as, refused-as, full-as}
 use Rattle.engine.proofs.States.{cause-number, ready-runs, ready-bytes}
 use Rattle.states.specs.declared.Status.the-variants as U

@@ -13,9 +13,9 @@ use Rattle.reading.specs.Piece as P
 use Rattle.reading.specs.Piece.{runPiece}
 use Rattle.reading.proofs.PieceLimit.{piece-feeds}
 use Rattle.reading.proofs.Refusals.{ended}
-use Rattle.engine.specs.declared.rule.Cause.{Cause}
-use Rattle.engine.specs.declared.rule.Cause.the-variants as C
-use Rattle.engine.specs.Meaning.{stateOf, number}
+use Rattle.rule.specs.declared.Cause.{Cause}
+use Rattle.rule.specs.declared.Cause.the-variants as C
+use Rattle.rule.specs.Meaning.{stateOf, number}
 use Rattle.reading.specs.Buffer.{filled}
 use Rattle.engine.proofs.States.{long-number, foreign-number, pad-number, spare-number, after-number, short-number, cause-number}
 use Rattle.states.specs.declared.Status.{Status}

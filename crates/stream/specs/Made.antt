@@ -8,7 +8,7 @@ use lib.ListN.{length, take, drop}
 use Rattle.answer.specs.Told.{told}
 use Rattle.alphabet.specs.Bits.{Below}
 use Rattle.reading.specs.Reader.{Verdict}
-use Rattle.engine.specs.declared.rule.Cause.{Cause}
+use Rattle.rule.specs.declared.Cause.{Cause}
 use Rattle.states.specs.declared.Status.the-variants as U
 use Rattle.stream.specs.declared.reader.Reader.{Reader}
 use Rattle.stream.specs.declared.reader.Stepped.{Stepped}

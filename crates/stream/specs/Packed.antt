@@ -4,9 +4,9 @@ use Rattle.answer.specs.declared.Kind.{Kind}
 use Rattle.answer.specs.declared.Kind.the-variants as K
 use Rattle.answer.specs.declared.Outcome.{Outcome}
 use Rattle.answer.specs.declared.Outcome.the-variants as O
-use Rattle.engine.specs.declared.rule.Core.{Core}
-use Rattle.engine.specs.declared.rule.End.{End}
-use Rattle.engine.specs.declared.rule.End.the-variants as E
+use Rattle.rule.specs.declared.Core.{Core}
+use Rattle.rule.specs.declared.End.{End}
+use Rattle.rule.specs.declared.End.the-variants as E
 use Rattle.engine.specs.declared.piece.Why.{Why}
 use Rattle.engine.specs.declared.piece.Why.the-variants as W
 use Rattle.engine.specs.declared.piece.Ran.{Ran}

@@ -11,11 +11,11 @@ use Rattle.answer.specs.declared.Kind.{Kind}
 use Rattle.answer.specs.declared.Kind.the-variants as K
 use Rattle.answer.specs.declared.Outcome.{Outcome}
 use Rattle.answer.specs.declared.Outcome.the-variants as O
-use Rattle.engine.specs.declared.rule.Cause.{Cause}
-use Rattle.engine.specs.declared.rule.Cause.the-variants as C
-use Rattle.engine.specs.Meaning.{stateOf, number}
+use Rattle.rule.specs.declared.Cause.{Cause}
+use Rattle.rule.specs.declared.Cause.the-variants as C
+use Rattle.rule.specs.Meaning.{stateOf, number}
 use Rattle.reading.specs.Buffer.{filled}
-use Rattle.engine.specs.Ran.{coreOf, causeOf}
+use Rattle.rule.specs.Meaning.{coreOf, causeOf}
 use Rattle.states.specs.Status.{statusOf}
 use Rattle.states.specs.declared.Status.{Status}
 use Rattle.states.specs.declared.Status.the-variants as U

@@ -5,9 +5,9 @@ use answer::Outcome;
 use answer::Place;
 use engine::piece::Ran;
 use engine::piece::Why;
-use engine::rule::Cause;
-use engine::rule::Core;
-use engine::rule::End;
+use rule::Cause;
+use rule::Core;
+use rule::End;
 use states::Status;
 use states::given;
 ghost use mathlib.Core.Path.{_≡_};
@@ -145,8 +145,8 @@ impl Reader {
     pub fn start(alphabet: usize, options: usize) -> Start
         ensures { λ r. ⌜ r ≡ begun alphabet options ⌝ }
     {
-        if engine::choice::allowed(alphabet, options) {
-            let core = engine::piece::fresh();
+        if rule::choice::allowed(alphabet, options) {
+            let core = rule::state::fresh();
             return Start::Started(Reader {
                 alphabet,
                 options,
@@ -188,7 +188,7 @@ impl Reader {
         if given(alphabet, options, core, status) {
             return match status {
                 Status::Open => {
-                    let end = engine::rule::ending(alphabet, options, core);
+                    let end = rule::ending(alphabet, options, core);
                     as_end(alphabet, options, core, end)
                 }
                 Status::Shut(cause) => unmoved(self, kind_by(cause, Place(core.taken))),

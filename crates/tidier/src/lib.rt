@@ -32,10 +32,10 @@ fn own_digit(t: &[u8; 1536], alphabet: usize, options: usize, byte: u8) -> Own
     requires { ⌜ alphabet < 6 ⌝ }
     ensures { λ r. ⌜ ownText r ≡ spelt alphabet options (byte ∷ []) ⌝ }
 {
-    if engine::rule::dropped(options, byte) {
+    if rule::dropped(options, byte) {
         return Own::Nothing;
     }
-    let turn = engine::rule::turned(alphabet, options, byte);
+    let turn = rule::turned(alphabet, options, byte);
     match alphabet::table::lookup(t, alphabet, turn) {
         Symbol::Digit(_) => Own::Digit(turn),
         Symbol::Pad => Own::Nothing,

@@ -1,6 +1,6 @@
 -- `end_answer`: the engine's end by its number. Assumes nothing.
 use mathlib.Core.Path.{sym, ap, _∙_}
-use Rattle.engine.specs.Meaning.{endOf}
+use Rattle.rule.specs.Meaning.{endOf}
 use borrow.Author.Needs.{needs}
 use Rattle.states.proofs.end_answer.Statement.{statement}
 use Rattle.states.proofs.end_answer.Tie as tie

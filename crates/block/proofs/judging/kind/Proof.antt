@@ -1,7 +1,7 @@
 -- `judging::kind`: by the cause. Assumes nothing.
 use mathlib.Core.Path.{refl}
 use Rattle.answer.specs.Told as Told
-use Rattle.engine.specs.Meaning as Engine
+use Rattle.rule.specs.Meaning as Engine
 use borrow.Author.Needs.{needs}
 use Rattle.block.proofs.judging.kind.Statement.{statement}
 use Rattle.block.proofs.judging.kind.Tie as tie

@@ -1,7 +1,7 @@
 -- `reader::most`: a product within the limit fits, and the tests are the definition's. Assumes nothing.
 use native.Mathlib.Omega.{arith}
 use borrow.Author.Tests.{lt-ltb, le-ltb}
-use Rattle.engine.proofs.AtLimit.{small-product}
+use Rattle.rule.proofs.Readiness.{small-product}
 use Rattle.block.specs.Room.{mostOf}
 use borrow.Author.Needs.{needs}
 use Rattle.block.proofs.reader.most.Statement.{statement}

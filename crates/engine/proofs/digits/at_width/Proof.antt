@@ -6,7 +6,7 @@ use lib.ListN.{length, getD}
 use borrow.Author.Needs.{needs}
 use Rattle.alphabet.proofs.AlphabetLaws.{bits-high}
 use Rattle.engine.specs.Ran.{Ready}
-use Rattle.engine.proofs.AtLimit.{small-product}
+use Rattle.rule.proofs.Readiness.{small-product}
 use Rattle.engine.proofs.Plain.{Plain, digits-below, plain-begins, plain-few, plain-size, plain-fits, plain-sums}
 use Rattle.engine.proofs.Plain.{plain-passes, byte-small, plain-joins, plain-holds, plain-gives}
 use Rattle.engine.proofs.digits.at_width.Statement.{statement}

@@ -1,7 +1,8 @@
 -- `piece::run`: a ready state and what lies below the limit, or nothing. Assumes nothing.
 use mathlib.Core.Path.{sym, _∙_}
 use borrow.Author.Needs.{needs}
-use Rattle.engine.proofs.AtLimit.{IsReady, is-ready, ready-for, below-length, below-fits, run-told, run-none}
+use Rattle.rule.proofs.Readiness.{IsReady, is-ready}
+use Rattle.engine.proofs.AtLimit.{ready-for, below-length, below-fits, run-told, run-none}
 use Rattle.engine.proofs.piece.run.Statement.{statement}
 use Rattle.engine.proofs.piece.run.Tie as tie
 
