@@ -3,10 +3,10 @@ use Prim.Native.Nat.{ℕ, _<_}
 use mathlib.Core.Path.{_≡_, sym, ap, _∙_}
 use mathlib.Core.Bool.{false}
 use mathlib.Core.List.{List}
-use Rattle.alphabet.specs.Table.{entries, symbolIn, symbolOf}
-use Rattle.alphabet.specs.declared.table.Symbol.{Symbol}
-use Rattle.alphabet.specs.declared.table.Symbol.the-variants.{Digit, Pad, Neither}
-use Rattle.alphabet.proofs.TableLaws.{symbol-is}
+use Rattle.table.specs.Table.{entries, symbolIn, symbolOf}
+use Rattle.table.specs.declared.Symbol.{Symbol}
+use Rattle.table.specs.declared.Symbol.the-variants.{Digit, Pad, Neither}
+use Rattle.table.proofs.TableLaws.{symbol-is}
 use Rattle.reading.specs.Cleaning.{dropped, turned}
 use Rattle.reading.specs.Reader.{State, refuses, onPad, step}
 use Rattle.reading.proofs.StepCases.{Digits, symbol-digits, symbol-pads, symbol-foreign}

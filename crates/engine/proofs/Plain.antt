@@ -8,13 +8,13 @@ use native.Mathlib.Omega.{arith}
 use lib.ListN.{length, getD, set}
 use lib.Pow.{pow-mono}
 use Rattle.alphabet.specs.Alphabet.{bits}
-use Rattle.alphabet.specs.Table.{entries}
-use Rattle.alphabet.specs.declared.table.Symbol.the-variants.{Digit}
-use Rattle.alphabet.specs.Regroup.{fed}
+use Rattle.table.specs.Table.{entries}
+use Rattle.table.specs.declared.Symbol.the-variants.{Digit}
+use Rattle.regroup.specs.Regroup.{fed}
 use Rattle.alphabet.proofs.AlphabetLaws.{bits-high}
-use Rattle.alphabet.proofs.Shifts.{shifted, shifted-lt}
-use Rattle.alphabet.proofs.TableLaws.{entry-digit}
-use Rattle.alphabet.proofs.Loose.{loose-held, loose-byte}
+use Rattle.regroup.proofs.Shifts.{shifted, shifted-lt}
+use Rattle.table.proofs.TableLaws.{entry-digit}
+use Rattle.regroup.proofs.Loose.{loose-held, loose-byte}
 use Rattle.reading.specs.Options.{allowed}
 use Rattle.reading.specs.Limit.{limit}
 use Rattle.reading.specs.Reader.{takes, gives, heldBits}

@@ -7,10 +7,10 @@ use native.Mathlib.Omega.{arith}
 use lib.Dec.{ltb}
 use borrow.Author.Tests.{le-ltb, ltb-true, ltb-false}
 use Rattle.alphabet.specs.Alphabet.{bits}
-use Rattle.alphabet.specs.Regroup.{fed}
-use Rattle.alphabet.specs.declared.regroup.Fed.the-variants.{Held, Byte}
+use Rattle.regroup.specs.Regroup.{fed}
+use Rattle.regroup.specs.declared.Fed.the-variants.{Held, Byte}
 use Rattle.alphabet.proofs.AlphabetLaws.{bits-high}
-use Rattle.alphabet.proofs.RegroupLaws.{fed-held, fed-byte}
+use Rattle.regroup.proofs.RegroupLaws.{fed-held, fed-byte}
 use Rattle.reading.specs.Reader.{takes, gives, heldBits, onDigit}
 use Rattle.reading.proofs.LimitLaws.{limit-small}
 use Rattle.rule.specs.declared.Core.{Core}

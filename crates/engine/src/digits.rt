@@ -5,7 +5,7 @@ ghost use Prim.Native.Nat.{_+_, _<_, _^_};
 ghost use mathlib.Core.Path.{_≡_};
 ghost use lib.ListN.{length};
 ghost use Rattle.alphabet.specs.Alphabet as Alphabet;
-ghost use Rattle.alphabet.specs.Table.{entries};
+ghost use Rattle.table.specs.Table.{entries};
 ghost use Rattle.engine.specs.Ran.{Ready};
 ghost use Rattle.engine.specs.Loop.{Passes, passedAs};
 

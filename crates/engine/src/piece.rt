@@ -14,7 +14,7 @@ ghost use Prim.Native.Nat.{_+_, _<_, _≤_, _^_};
 ghost use mathlib.Core.Path.{_≡_};
 ghost use mathlib.Core.Bool.{true};
 ghost use lib.ListN.{length, take};
-ghost use Rattle.alphabet.specs.Table.{entries};
+ghost use Rattle.table.specs.Table.{entries};
 ghost use Rattle.reading.specs.Options as Options;
 ghost use Rattle.reading.specs.Limit as Limit;
 ghost use Rattle.reading.specs.Piece as Piece;
@@ -302,7 +302,7 @@ pub fn run(alphabet: usize, options: usize, start: Core, piece: &[u8], out: &mut
     ensures { λ r. ⌜ now (out .exit) ≡ filled (Spec.runBytes alphabet options start (now (piece .entry)) (length (now (out .entry)))) (now (out .entry)) ⌝ }
 {
     if ready(alphabet, options, start) {
-        let t = alphabet::table::table();
+        let t = table::table();
         let m = below_limit(start.taken, piece.len());
         let r = fill(&t, alphabet, options, start, &piece[..m], out);
         return at_limit(r, piece.len());
@@ -316,7 +316,7 @@ pub fn count(alphabet: usize, options: usize, text: &[u8]) -> Ran
 {
     let start = fresh();
     if allowed(alphabet, options) {
-        let t = alphabet::table::table();
+        let t = table::table();
         let m = below_limit(0, text.len());
         let r = tally(&t, alphabet, options, start, &text[..m]);
         return at_limit(r, text.len());
@@ -331,7 +331,7 @@ pub fn in_place(alphabet: usize, options: usize, buf: &mut [u8]) -> Ran
 {
     let start = fresh();
     if allowed(alphabet, options) {
-        let t = alphabet::table::table();
+        let t = table::table();
         let len = buf.len();
         let m = below_limit(0, len);
         let r = settle(&t, alphabet, options, start, &mut buf[..m]);

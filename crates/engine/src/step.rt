@@ -1,6 +1,6 @@
 // What one byte does in a state, in the order of 01's (b) to (f).
-use alphabet::regroup::Fed;
-use alphabet::table::Symbol;
+use regroup::Fed;
+use table::Symbol;
 use rule::Cause;
 use rule::Core;
 use rule::choice::chosen;
@@ -10,7 +10,7 @@ use rule::wants;
 ghost use mathlib.Core.Path.{_≡_};
 ghost use Prim.Native.Nat.{_<_, _^_};
 ghost use Rattle.alphabet.specs.Alphabet as Alphabet;
-ghost use Rattle.alphabet.specs.Table.{entries};
+ghost use Rattle.table.specs.Table.{entries};
 ghost use Rattle.reading.specs.Reader as Reader;
 ghost use Rattle.rule.specs.Meaning.{stateOf};
 ghost use Rattle.engine.specs.Meaning.{stepOf, Fit};
@@ -40,7 +40,7 @@ pub(crate) fn on_digit(alphabet: usize, b: usize, k: Core, v: u8) -> Took
     let r = b * digits % 8;
     let d = digits + 1;
     let next = taken + 1;
-    match alphabet::regroup::feed(b, r, held, v) {
+    match regroup::feed(b, r, held, v) {
         Fed::Held(h) => Took::Takes(Core {
             digits: d,
             held: h,
@@ -107,7 +107,7 @@ pub(crate) fn rare(t: &[u8; 1536], alphabet: usize, options: usize, k: Core, byt
         return Took::Takes(passed);
     }
     let turn = turned(alphabet, options, byte);
-    match alphabet::table::lookup(t, alphabet, turn) {
+    match table::lookup(t, alphabet, turn) {
         Symbol::Digit(v) => {
             let b = alphabet::sizes::bits(alphabet);
             on_digit(alphabet, b, k, v)

@@ -7,12 +7,12 @@ use native.Mathlib.Omega.{arith}
 use lib.Dec.{T, eqb, ltb, leb}
 use borrow.Author.Tests.{ltb-true, ltb-false, lt-ltb, le-ltb, lt-leb, le-leb, eqb-true, eqb-false, eq-eqb, ne-eqb}
 use Rattle.alphabet.specs.Alphabet.{bits, value, digit, isDigit, isPad, pad}
-use Rattle.alphabet.specs.Table.{symbolOf}
-use Rattle.alphabet.specs.declared.table.Symbol.{Symbol}
-use Rattle.alphabet.specs.declared.table.Symbol.the-variants.{Digit, Pad, Neither}
+use Rattle.table.specs.Table.{symbolOf}
+use Rattle.table.specs.declared.Symbol.{Symbol}
+use Rattle.table.specs.declared.Symbol.the-variants.{Digit, Pad, Neither}
 use Rattle.alphabet.proofs.Symbols.{IsDigit, is-digit, is-pad, digit-printable}
 use Rattle.alphabet.proofs.Edges.{digit-own}
-use Rattle.alphabet.proofs.TableLaws.{symbol-digit, symbol-pad, symbol-neither}
+use Rattle.table.proofs.TableLaws.{symbol-digit, symbol-pad, symbol-neither}
 use Rattle.reading.specs.Options.{chosen, lines, blank, anyCase, allowed}
 use Rattle.reading.specs.Cleaning.{dropped, turned, upper, lower}
 use Rattle.reading.specs.Reader.{State, Step, takes, gives, refuses, passes, onDigit, onPad, step}

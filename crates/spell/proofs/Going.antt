@@ -11,7 +11,7 @@ use lib.Seq.{drop-cons}
 use borrow.Author.Tests.{lt-ltb, le-ltb}
 use Rattle.alphabet.specs.Alphabet.{bits, digit}
 use Rattle.alphabet.proofs.AlphabetLaws.{bits-low, bits-high}
-use Rattle.alphabet.proofs.RegroupLaws.{rest-lt}
+use Rattle.regroup.proofs.RegroupLaws.{rest-lt}
 use Rattle.spelling.specs.declared.Why.the-variants as W
 use Rattle.spelling.specs.Machine.{stop, after, fullRuns, keeps, whereRoom, spell}
 use Rattle.spell.specs.Contracts.{spellOf, Spells, leaving, WentAs}

@@ -6,7 +6,7 @@ use mathlib.Core.List.{List}
 use lib.Dec.{ltb}
 use lib.ListN.{length}
 use Rattle.alphabet.specs.Alphabet.{bits}
-use Rattle.alphabet.specs.Table.{digitEntries}
+use Rattle.table.specs.Table.{digitEntries}
 use Rattle.reading.specs.Buffer.{filled}
 use Rattle.spelling.specs.Machine.{Run, stop, spell}
 use Rattle.spelling.specs.declared.Why.the-variants as W

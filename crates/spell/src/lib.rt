@@ -3,7 +3,7 @@ ghost use mathlib.Core.Path.{_≡_};
 ghost use Prim.Native.Nat.{_/_, _%_, _^_, _<_, _≤_};
 ghost use lib.ListN.{length};
 ghost use Rattle.alphabet.specs.Alphabet.{bits, digit};
-ghost use Rattle.alphabet.specs.Table.{digitEntries};
+ghost use Rattle.table.specs.Table.{digitEntries};
 ghost use Rattle.spell.specs.Contracts.{spellOf, spelledOf, Spells, leaving, WentAs};
 
 // What a run of bytes came to: the bits held, the bytes of the source taken and the digits written.
@@ -26,7 +26,7 @@ fn digit_above(t: &[u8; 384], alphabet: usize, z: usize, k: usize, b: usize) -> 
     requires { ⌜ (now t ≡ digitEntries) × (alphabet < 6) × (b ≡ bits alphabet) × (k < 16) ⌝ }
     ensures { λ r. ⌜ r ≡ digit alphabet (z / 2 ^ k % 2 ^ b) ⌝ }
 {
-    alphabet::table::digit(t, alphabet, value(z, k, b))
+    table::digit(t, alphabet, value(z, k, b))
 }
 
 // The few low bits of h are held.
@@ -116,6 +116,6 @@ pub fn spelled(alphabet: usize, taken: usize, held: u8, piece: &[u8], out: &mut 
     if 5 < alphabet {
         return stopped(0, 0, 0, 0);
     }
-    let t = alphabet::table::digits();
+    let t = table::digits();
     by_width(&t, alphabet, taken, held, piece, out)
 }

@@ -9,11 +9,11 @@ use lib.Dec.{ltb}
 use lib.ListN.{length}
 use borrow.Author.Tests.{ltb-true, ltb-false}
 use Rattle.alphabet.specs.Bits.{bitsOf}
-use Rattle.alphabet.specs.Regroup.{Cut, One, Two, cutUp}
+use Rattle.regroup.specs.Regroup.{Cut, One, Two, cutUp}
 use Rattle.alphabet.proofs.Runs.{bits-join, joined-lt}
 use Rattle.alphabet.proofs.Cutting.{pack-none, pack-bits, drop-bits, drop-no-run}
-use Rattle.alphabet.proofs.RegroupLaws.{rest-lt, cut-one, cut-two}
-use Rattle.alphabet.proofs.LooseCuts.{cut-one-loose, cut-two-loose}
+use Rattle.regroup.proofs.RegroupLaws.{rest-lt, cut-one, cut-two}
+use Rattle.regroup.proofs.LooseCuts.{cut-one-loose, cut-two-loose}
 use Rattle.spelling.specs.Machine.{waiting, fullRuns, completes, keeps}
 
 -- after n bytes a byte completes the digits ds; r and held are the bits held after it

@@ -9,10 +9,10 @@ use lib.ListN.{length, take, drop, getD, set, length-append, length-drop}
 use lib.Seq.{length-take-le, getD-take, take-all}
 use borrow.Author.Tests.{eq-eqb, ne-eqb}
 use Rattle.alphabet.specs.Alphabet.{digit, value, isDigit}
-use Rattle.alphabet.specs.Table.{symbolOf, digitEntries, digitIn}
-use Rattle.alphabet.specs.declared.table.Symbol.the-variants.{Digit, Pad, Neither}
+use Rattle.table.specs.Table.{symbolOf, digitEntries, digitIn}
+use Rattle.table.specs.declared.Symbol.the-variants.{Digit, Pad, Neither}
 use Rattle.alphabet.proofs.Symbols.{is-pad, pad-is-no-digit}
-use Rattle.alphabet.proofs.TableLaws.{symbol-digit, digit-symbol, pad-symbol, neither-symbol, digit-is}
+use Rattle.table.proofs.TableLaws.{symbol-digit, digit-symbol, pad-symbol, neither-symbol, digit-is}
 use Rattle.reading.specs.Options.{allowed}
 use Rattle.reading.specs.Cleaning.{dropped, turned}
 use Rattle.reading.proofs.OptionLaws.{allowed-alphabet}

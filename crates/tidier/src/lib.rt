@@ -1,5 +1,5 @@
 // The tidier: the cleaned text of an accepted one. The text is read twice: it is counted, and its digits are written in the alphabet's own case.
-use alphabet::table::Symbol;
+use table::Symbol;
 use answer::Count;
 use answer::Kind;
 use answer::Outcome;
@@ -11,7 +11,7 @@ ghost use mathlib.Core.List.{_∷_, [], _++_};
 ghost use Prim.Native.Nat.{_+_, _-_, _<_, _≤_};
 ghost use lib.ListN.{length, take, replicate};
 ghost use Rattle.alphabet.specs.Alphabet as Alphabet;
-ghost use Rattle.alphabet.specs.Table.{entries};
+ghost use Rattle.table.specs.Table.{entries};
 ghost use Rattle.alphabet.specs.Written as Written;
 ghost use Rattle.reading.specs.Options as Options;
 ghost use Rattle.reading.specs.Cleaning as Cleaning;
@@ -36,7 +36,7 @@ fn own_digit(t: &[u8; 1536], alphabet: usize, options: usize, byte: u8) -> Own
         return Own::Nothing;
     }
     let turn = rule::turned(alphabet, options, byte);
-    match alphabet::table::lookup(t, alphabet, turn) {
+    match table::lookup(t, alphabet, turn) {
         Symbol::Digit(_) => Own::Digit(turn),
         Symbol::Pad => Own::Nothing,
         Symbol::Neither => Own::Nothing,
@@ -55,7 +55,7 @@ fn spell(t: &[u8; 1536], alphabet: usize, options: usize, text: &[u8], out: &mut
     let mut n: usize = 0;
     while i < text.len() {
         let byte = text[i];
-        match alphabet::table::lookup(t, alphabet, byte) {
+        match table::lookup(t, alphabet, byte) {
             Symbol::Digit(_) => {
                 out[n] = byte;
                 n += 1;
@@ -89,10 +89,10 @@ fn clear_last(t: &[u8; 1536], alphabet: usize, held: u8, n: usize, out: &mut [u8
     }
     let last = n - 1;
     let byte = out[last];
-    match alphabet::table::lookup(t, alphabet, byte) {
+    match table::lookup(t, alphabet, byte) {
         Symbol::Digit(v) => {
-            let d = alphabet::table::digits();
-            out[last] = alphabet::table::digit(&d, alphabet, v - held);
+            let d = table::digits();
+            out[last] = table::digit(&d, alphabet, v - held);
         }
         Symbol::Pad => {}
         Symbol::Neither => {}
@@ -128,7 +128,7 @@ fn write_clean(alphabet: usize, options: usize, held: u8, need: usize, text: &[u
     requires { ⌜ need ≤ length (now out) ⌝ }
     ensures { λ _. ⌜ now (out .exit) ≡ filled (Cleaning.clean alphabet options (now (text .entry))) (now (out .entry)) ⌝ }
 {
-    let t = alphabet::table::table();
+    let t = table::table();
     let n = spell(&t, alphabet, options, text, out);
     clear_last(&t, alphabet, held, n, out);
     put_pads(n, need, out);

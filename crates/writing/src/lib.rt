@@ -13,7 +13,7 @@ ghost use Prim.Native.Nat.{_+_, _*_, _/_, _%_, _^_, _<_, _≤_};
 ghost use lib.ListN.{length, replicate};
 ghost use lib.Seq.{paste};
 ghost use Rattle.alphabet.specs.Alphabet.{pad};
-ghost use Rattle.alphabet.specs.Table.{digitEntries};
+ghost use Rattle.table.specs.Table.{digitEntries};
 ghost use Rattle.alphabet.specs.Written.{writtenLength};
 ghost use Rattle.reading.specs.Limit.{limit};
 ghost use Rattle.spelling.specs.Front.{ending};
@@ -121,7 +121,7 @@ fn put_ending(t: &[u8; 384], alphabet: usize, taken: usize, held: u8, at: usize,
         return;
     }
     let pads = written_len(alphabet, taken) - 8 * taken / b - 1;
-    out[at] = alphabet::table::digit(t, alphabet, filled(held, b - few));
+    out[at] = table::digit(t, alphabet, filled(held, b - few));
     let next = at + 1;
     put_pads(next, pads, out)
 }

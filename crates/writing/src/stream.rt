@@ -150,7 +150,7 @@ fn closed(alphabet: usize, taken: usize, held: u8, out: &mut [u8]) -> Stepped
         };
         return unmoved(state, Kind::NoRoom(place));
     }
-    let t = alphabet::table::digits();
+    let t = table::digits();
     super::put_ending(&t, alphabet, taken, held, 0, out);
     let done = Writer {
         alphabet,

@@ -30,6 +30,6 @@ fn put_form(alphabet: usize, src: &[u8], out: &mut [u8])
     let r = super::run(alphabet, 0, 0, src, out);
     let held = r.held;
     let at = r.written;
-    let t = alphabet::table::digits();
+    let t = table::digits();
     super::put_ending(&t, alphabet, src.len(), held, at, out)
 }

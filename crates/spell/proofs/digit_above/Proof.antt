@@ -1,9 +1,9 @@
 -- The table has a value's digit. Assumes nothing.
 use mathlib.Core.Path.{_∙_, ap}
 use native.Mathlib.Omega.{arith}
-use Rattle.alphabet.specs.Table.{digitIn}
+use Rattle.table.specs.Table.{digitIn}
 use Rattle.alphabet.proofs.AlphabetLaws.{bits-high}
-use Rattle.alphabet.proofs.RegroupLaws.{rest-lt}
+use Rattle.regroup.proofs.RegroupLaws.{rest-lt}
 use Rattle.spelling.proofs.Lent.{digit-of}
 use borrow.Author.Needs.{needs}
 use Rattle.spell.proofs.digit_above.Statement.{statement}

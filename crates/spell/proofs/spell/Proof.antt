@@ -5,7 +5,7 @@ use native.Mathlib.Nat.{mod-lt}
 use native.Mathlib.Omega.{arith}
 use lib.ListN.{length, getD}
 use Rattle.alphabet.specs.Alphabet.{bits}
-use Rattle.alphabet.specs.Table.{digitEntries}
+use Rattle.table.specs.Table.{digitEntries}
 use Rattle.alphabet.proofs.AlphabetLaws.{bits-low, bits-high}
 use borrow.Author.Needs.{needs}
 use Rattle.spell.proofs.Going.{Going, begins, ends, sizes, none-fits, two-lack, took-one, took-two}

@@ -3,8 +3,8 @@ use Prim.Native.Nat.{_/_, _^_}
 use native.Mathlib.Nat.{lt-of-lt-of-le}
 use native.Mathlib.Omega.{arith}
 use lib.Pow.{pow-pos, pow-mono}
-use Rattle.alphabet.proofs.RegroupLaws.{rest-lt}
-use Rattle.alphabet.proofs.Shifts.{one-shifted, masked}
+use Rattle.regroup.proofs.RegroupLaws.{rest-lt}
+use Rattle.regroup.proofs.Shifts.{one-shifted, masked}
 use borrow.Author.Needs.{needs}
 use Rattle.spell.proofs.value.Statement.{statement}
 use Rattle.spell.proofs.value.Tie as tie

@@ -8,7 +8,7 @@ use lib.ListN.{length, replicate, length-set}
 use lib.Pow.{pow-mono}
 use borrow.Author.Needs.{needs}
 use Rattle.alphabet.specs.Alphabet.{digit, pad}
-use Rattle.alphabet.specs.Table.{digitIn}
+use Rattle.table.specs.Table.{digitIn}
 use Rattle.alphabet.proofs.AlphabetLaws.{bits-low, bits-high}
 use Rattle.spelling.specs.Front.{ending}
 use Rattle.spelling.proofs.LengthLaws.{source-small}

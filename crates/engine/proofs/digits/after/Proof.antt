@@ -4,7 +4,7 @@ use native.Mathlib.Nat.{mod-le}
 use native.Mathlib.Omega.{arith}
 use lib.Pow.{pow-pos}
 use borrow.Author.Needs.{needs}
-use Rattle.alphabet.proofs.Shifts.{one-shifted}
+use Rattle.regroup.proofs.Shifts.{one-shifted}
 use Rattle.engine.proofs.digits.after.Statement.{statement}
 use Rattle.engine.proofs.digits.after.Tie as tie
 

@@ -1,0 +1,5 @@
+pub mod Shifts
+pub mod RegroupLaws
+pub mod StepLaws
+pub mod Loose
+pub mod LooseCuts
