@@ -88,8 +88,8 @@ module _ (a opts : ℕ) (piece : List ℕ) (s : State) (room : ℕ) where
           let front : List ℕ = take (limit - s .taken) piece in
           limited-past (run a opts front s room) (limit - s .taken) (length piece)
           (λ w. run-feeds a opts front s room [] .all-took w
-              ∙ length-take-le (limit - s .taken) piece (omega (arith, ltb-true (limit - s .taken) (length piece) e)))
-              (ltb-true (limit - s .taken) (length piece) e)
+          ∙ length-take-le (limit - s .taken) piece (omega (arith, ltb-true (limit - s .taken) (length piece) e)))
+          (ltb-true (limit - s .taken) (length piece) e)
       go false e =
           rw (take-length piece)
           (limited-same (run a opts piece s room) (length piece) (λ w. omega (arith, run-feeds a opts piece s room [] .all-took w)))
@@ -148,7 +148,7 @@ module _ (a opts : ℕ) (text : List ℕ) where
     fresh-run : run a opts (take m text) fresh (length (take m text)) ≡ run a opts (take (below 0 (length text)) text) fresh (length text)
     fresh-run =
         run-room a opts (take m text) fresh (length (take m text)) (length text) (omega arith)
-            (omega (arith, below-length 0 text is, is, below-inside 0 (length text)))
+        (omega (arith, below-length 0 text is, is, below-inside 0 (length text)))
         ∙ ap (λ (n : ℕ). run a opts (take n text) fresh (length text)) is
 
     pub fresh-is : {q r : Ran} → q ≡ ranAs (run a opts (take m text) fresh (length (take m text))) → r ≡ limited q (length text)

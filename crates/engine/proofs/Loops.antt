@@ -109,9 +109,17 @@ pub stored-lent : (w v o : List ℕ) {n : ℕ} {out out' : List ℕ} → length 
     → take n out ++ (out' ++ drop (length out - n) (drop n out)) ≡ (w ++ v) ++ drop (n + length v) o
 stored-lent w v o {n} {out} {out'} size front e =
     let rest : drop n out ≡ drop n o = ap (drop n) front ∙ drop-at w (drop n o) n size in
-    rw
-    (past-none out n, append-nil, e, rest-all out n, rest, ap (take n) front
-        ∙ take-at w (drop n o) n size, drop-drop (length v) n o, append-assoc)
+    rw (
+      past-none out n,
+      append-nil,
+      e,
+      rest-all out n,
+      rest,
+      ap (take n) front
+          ∙ take-at w (drop n o) n size,
+      drop-drop (length v) n o,
+      append-assoc,
+    )
 
 -- ---- the loop into a buffer
 
@@ -127,8 +135,11 @@ module _ {a opts : ℕ} {piece : List ℕ} {start : Core} {out₀ out : List ℕ
   -- the rest of the piece can be read
   pub filling-ready : Ready a start (length piece) → Ready a k (length (take (length piece - i) (drop i piece)))
   filling-ready r =
-      record { sound = f .loop .sound; within = rw (rest-all piece i, length-drop)
-          (omega (arith, f .loop .within, f .loop .place, r .within)) }
+      record {
+        sound = f .loop .sound;
+        within = rw (rest-all piece i, length-drop)
+            (omega (arith, f .loop .within, f .loop .place, r .within));
+      }
 
   pub filling-takes : {t : Took} {k' : Core} → i < length piece → stepOf t ≡ step a opts (stateOf k) (getD piece i 0) → t ≡ Takes k'
       → Filling a opts piece start out₀ out k' (i + 1) n

@@ -194,7 +194,7 @@ module _ {a opts : ℕ} {text : List ℕ} {start : Core} {e room : ℕ} {wrote p
         let lent : out ≡ filled (q .wrote) (take (length buf - s .wrote) (drop (s .wrote) buf)) =
         fill ∙ ap (λ (z : P.Ran). filled (z .wrote) (take (length buf - s .wrote) (drop (s .wrote) buf))) part-run in
         subst (λ (z : Ran). Settled a opts text start (take (s .wrote) buf ++ (out ++ drop (length buf - s .wrote) (drop (s .wrote) buf)))
-            (thenAs s z)) (sym so)
+        (thenAs s z)) (sym so)
         (record { count = reached; front = stored-lent wrote (q .wrote) text (f .loop .size) front lent })
 
 -- ---- what the loop in place reads

@@ -70,8 +70,11 @@ module _ {a : ℕ} {start : Core} {piece out₀ out : List ℕ} {h r i n : ℕ} 
 
   -- the sums of the state fit
   pub plain-sums : Ready a start (length piece) → (start .digits + i < 2 ^ 40) × (start .taken + i < 2 ^ 40)
-  plain-sums q = (omega (arith, strict .loop .within, q .sound .digits, q .within, limit-small), omega
-      (arith, strict .loop .within, q .within, limit-small))
+  plain-sums q = (
+    omega (arith, strict .loop .within, q .sound .digits, q .within, limit-small),
+    omega
+        (arith, strict .loop .within, q .within, limit-small),
+  )
 
   pub plain-passes : {y : Passed} → y ≡ passedAs start h r i n → Passes a start piece out₀ out y
   plain-passes e = subst (Passes a start piece out₀ out) (sym e) (record { fills = f .fills })
@@ -83,7 +86,7 @@ module _ {a : ℕ} {start : Core} {piece out₀ out : List ℕ} {h r i n : ℕ} 
     plain-digit opts w =
         let same : v ≡ getD entries (a * 256 + getD piece i 0) 0 = is ∙ ap (λ (y : List ℕ). getD y (a * 256 + getD piece i 0) 0) e in
         stands a opts (stateOf (coreAt start h r i)) (getD piece i 0) w (entry-digit a (getD piece i 0) x inside (λ z. m (same ∙ z))
-            ∙ ap Digit (sym same))
+        ∙ ap Digit (sym same))
 
     pub small : v < 2 ^ bits a
     small = plain-digit 0 (strict-allowed a x) .small
@@ -130,8 +133,14 @@ module _ {a : ℕ} {start : Core} {piece out₀ out : List ℕ} {h r i n : ℕ} 
         let held = loose-byte (bits a) r h wide (plain-few) small b s in
         record {
           byte = mod-lt _ (omega arith);
-          few = omega (arith, s, f .few, left-then a x (stateOf k) (strict .loop .sound) (omega (arith, s, f .few)), add-assoc
-              (start .digits) i 1);
+          few = omega (
+            arith,
+            s,
+            f .few,
+            left-then a x (stateOf k) (strict .loop .sound) (omega (arith, s, f .few)),
+            add-assoc
+                (start .digits) i 1,
+          );
           fills = λ opts w.
               filling-gives x (f .fills opts w) {t = Gives o (coreAt start y b (i + 1))} l
               (ap (λ (c : Core). gives o (stateOf c)) (next y b)

@@ -135,12 +135,12 @@ stretch-put {a} {opts} {k} {piece} {out₀} {out} {p} {r} {room} {out'} byte h f
     room-or-not x c e is true q =
         rw (← z, q)
         (stretch-goes (is ∙ rw q) (filling-gives h f {t = Gives x c} l e refl (omega (arith, ltb-true (p .wrote) room q, size)))
-            (λ n. omega arith))
+        (λ n. omega arith))
     room-or-not x c e is false q =
         rw (← z, q)
         (stretch-stops {r = full} (is ∙ rw q) full-not-all
         (filling-done h f {r = full} (is ∙ rw q)
-            (loop-full h (f .loop) {t = Gives x c} l e refl (omega (arith, ltb-false (p .wrote) room q, size, f .loop .fits)))))
+        (loop-full h (f .loop) {t = Gives x c} l e refl (omega (arith, ltb-false (p .wrote) room q, size, f .loop .fits)))))
 
     go : (b : Took) → stepOf b ≡ step a opts (stateOf (p .core)) (getD piece (p .took) 0) → r ≡ putAs p b room
         → Stretch a opts k piece out₀ (putIn p b out) r
@@ -157,7 +157,7 @@ module _ {a opts : ℕ} {start : Core} {piece out₀ out : List ℕ} {s : Ran} (
       go (inr n) =
           let w : List ℕ = run a opts piece (stateOf start) (length out₀) .wrote in
           ap length (f .bytes n)
-              ∙ simp (length-append, length-drop) (omega (arith, run-feeds a opts piece (stateOf start) (length out₀) [] .wrote-in))
+          ∙ simp (length-append, length-drop) (omega (arith, run-feeds a opts piece (stateOf start) (length out₀) [] .wrote-in))
 
   pub reached-sums : (s .took ≤ length piece) × (s .wrote ≤ length out₀)
   reached-sums = go (all-or-not (s .why))
@@ -178,14 +178,14 @@ module _ {a opts : ℕ} {start : Core} {piece out₀ out : List ℕ} {s : Ran} (
       ap length (rest-all out (s .wrote)) ∙ length-drop (s .wrote) out ∙ ap (λ (m : ℕ). m - s .wrote) reached-size in
       let q : P.Ran = run a opts (drop (s .took) piece) (stateOf (s .core)) (length out₀ - s .wrote) in
       let rest : run a opts (take (length piece - s .took) (drop (s .took) piece)) (stateOf (s .core))
-          (length (take (length out - s .wrote) (drop (s .wrote) out))) ≡ q =
+      (length (take (length out - s .wrote) (drop (s .wrote) out))) ≡ q =
       rw (rest-all piece (s .took), room) in
       record {
         goes = λ x. filling-lent h p (g .goes x);
         is = λ x. ap (thenAs s) (g .is x ∙ ap ranAs rest) ∙ then-after s (p .wrote) q (p .loop .size) ∙ ap ranAs (sym (p .loop .same));
         bytes = λ x.
             stored-lent (p .wrote) (q .wrote) out₀ (p .loop .size) (p .front)
-                (g .bytes x ∙ ap (λ (z : P.Ran). filled (z .wrote) (take (length out - s .wrote) (drop (s .wrote) out))) rest)
+            (g .bytes x ∙ ap (λ (z : P.Ran). filled (z .wrote) (take (length out - s .wrote) (drop (s .wrote) out))) rest)
             ∙ rw (p .loop .same, length-append, p .loop .size);
       }
 

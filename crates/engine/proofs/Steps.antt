@@ -46,12 +46,12 @@ module _ (a : ℕ) (h : a < 6) (k : Core) (f : Fit a k) where
             → takes (record { digits = k .digits + 1; held = x; pads = 0; taken = k .taken + 1 }) ≡ onDigit a (stateOf k) v
         go true q =
             let z : x ≡ k .held * 2 ^ bits a + v = cc (fed-held (bits a) (heldBits a (stateOf k)) (omega (arith, bits-high a h)) few
-                (f .held) l (ltb-true _ _ q)) in
+            (f .held) l (ltb-true _ _ q)) in
             rw (z, le-ltb 0 (k .pads) p, q)
         go false q =
             let n : ℕ = heldBits a (stateOf k) + bits a - 8 in
             let z : _≡_ {A = ℕ} 0 1 = cc (fed-byte (bits a) (heldBits a (stateOf k)) (omega (arith, bits-high a h)) few (f .held) l n
-                (omega (arith, ltb-false (heldBits a (stateOf k) + bits a) 8 q))) in
+            (omega (arith, ltb-false (heldBits a (stateOf k) + bits a) 8 q))) in
             absurd (omega arith)
 
     -- a digit that completes a byte
@@ -64,12 +64,12 @@ module _ (a : ℕ) (h : a < 6) (k : Core) (f : Fit a k) where
             → gives y (record { digits = k .digits + 1; held = x; pads = 0; taken = k .taken + 1 }) ≡ onDigit a (stateOf k) v
         go true q =
             let z : _≡_ {A = ℕ} 0 1 = cc (fed-held (bits a) (heldBits a (stateOf k)) (omega (arith, bits-high a h)) few (f .held) l
-                (ltb-true _ _ q)) in
+            (ltb-true _ _ q)) in
             absurd (omega arith)
         go false q =
             let n : ℕ = heldBits a (stateOf k) + bits a - 8 in
             let s = fed-byte (bits a) (heldBits a (stateOf k)) (omega (arith, bits-high a h)) few (f .held) l n
-                (omega (arith, ltb-false (heldBits a (stateOf k) + bits a) 8 q)) in
+            (omega (arith, ltb-false (heldBits a (stateOf k) + bits a) 8 q)) in
             let z : y ≡ (k .held * 2 ^ bits a + v) / 2 ^ n = cc in
             let w : x ≡ (k .held * 2 ^ bits a + v) % 2 ^ n = cc in
             rw (z, w, le-ltb 0 (k .pads) p, q)

@@ -1,15 +1,15 @@
 // The loops over a piece: into a second buffer, in place, and counting alone. Each takes the table once, and asks `on_digit` for a byte that
 // is a digit as it stands and `rare` for any other, so that the common byte costs no call.
-use rule::choice::allowed;
 use crate::digits::Passed;
 use crate::digits::pass;
-use rule::Cause;
-use rule::Core;
-use rule::state::fresh;
-use rule::state::ready;
 use crate::step::Took;
 use crate::step::rare;
 pub use reading::limit;
+use rule::Cause;
+use rule::Core;
+use rule::choice::allowed;
+use rule::state::fresh;
+use rule::state::ready;
 ghost use Prim.Native.Nat.{_+_, _<_, _≤_, _^_};
 ghost use mathlib.Core.Path.{_≡_};
 ghost use mathlib.Core.Bool.{true};
@@ -39,8 +39,6 @@ pub struct Ran {
     pub took: usize,
     pub wrote: usize,
 }
-
-
 
 // A run, and one more after it: the counts are added.
 fn then(first: Ran, next: Ran) -> Ran

@@ -1,12 +1,12 @@
 // What one byte does in a state, in the order of 01's (b) to (f).
 use regroup::Fed;
-use table::Symbol;
 use rule::Cause;
 use rule::Core;
 use rule::choice::chosen;
 use rule::dropped;
 use rule::turned;
 use rule::wants;
+use table::Symbol;
 ghost use mathlib.Core.Path.{_≡_};
 ghost use Prim.Native.Nat.{_<_, _^_};
 ghost use Rattle.alphabet.specs.Alphabet as Alphabet;

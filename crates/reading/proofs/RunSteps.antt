@@ -59,7 +59,7 @@ module _ {a opts : ℕ} {piece : List ℕ} {s₀ : State} {room : ℕ} {s : Stat
         g .same
         ∙ ap (λ (r : Ran). after i wrote r)
         (peel h ∙ ap (λ (t : Step). onStep s t (λ m. run a opts (drop (i + 1) piece) m (room - n)) (room - n)
-            (λ m r. run a opts (drop (i + 1) piece) m r)) e)
+        (λ m r. run a opts (drop (i + 1) piece) m r)) e)
         ∙ after-after i 1 wrote [] (run a opts (drop (i + 1) piece) m (room - n))
         ∙ ap (λ (w : List ℕ). after (i + 1) w (run a opts (drop (i + 1) piece) m (room - n))) (append-nil wrote);
   }
@@ -77,9 +77,9 @@ module _ {a opts : ℕ} {piece : List ℕ} {s₀ : State} {room : ℕ} {s : Stat
             g .same
             ∙ ap (λ (r : Ran). after i wrote r)
             (peel h ∙ ap (λ (t : Step). onStep s t (λ m. run a opts (drop (i + 1) piece) m (room - n)) (room - n)
-                (λ m r. run a opts (drop (i + 1) piece) m r)) e
-                    ∙ room-less (room - n) (omega arith) s x m (λ m. run a opts (drop (i + 1) piece) m (room - n))
-                    (λ m r. run a opts (drop (i + 1) piece) m r))
+            (λ m r. run a opts (drop (i + 1) piece) m r)) e
+            ∙ room-less (room - n) (omega arith) s x m (λ m. run a opts (drop (i + 1) piece) m (room - n))
+            (λ m r. run a opts (drop (i + 1) piece) m r))
             ∙ after-after i 1 wrote (x ∷ []) (run a opts (drop (i + 1) piece) m (room - n - 1))
             ∙ ap (λ (r : ℕ). after (i + 1) (wrote ++ x ∷ []) (run a opts (drop (i + 1) piece) m r)) left;
       }
@@ -91,17 +91,17 @@ module _ {a opts : ℕ} {piece : List ℕ} {s₀ : State} {room : ℕ} {s : Stat
   is-full {m} {x} h l e =
       let none : room - n ≡ 0 = omega arith in
       over (peel h
-          ∙ ap (λ (t : Step). onStep s t (λ m. run a opts (drop (i + 1) piece) m (room - n)) (room - n)
-          (λ m r. run a opts (drop (i + 1) piece) m r)) e
-              ∙ ap (λ (r : ℕ). onStep s (gives x m) (λ m. run a opts (drop (i + 1) piece) m (room - n)) r
-              (λ m r. run a opts (drop (i + 1) piece) m r)) none)
+      ∙ ap (λ (t : Step). onStep s t (λ m. run a opts (drop (i + 1) piece) m (room - n)) (room - n)
+      (λ m r. run a opts (drop (i + 1) piece) m r)) e
+      ∙ ap (λ (r : ℕ). onStep s (gives x m) (λ m. run a opts (drop (i + 1) piece) m (room - n)) r
+      (λ m r. run a opts (drop (i + 1) piece) m r)) none)
 
   -- a byte that is refused
   pub is-refused : {k : ℕ} → i < length piece → step a opts s (getD piece i 0) ≡ refuses k → Over a opts piece s₀ room s (refused k) i wrote
   unfolding onStep
   is-refused h e = over
       (peel h ∙ ap (λ (t : Step). onStep s t (λ m. run a opts (drop (i + 1) piece) m (room - n)) (room - n)
-          (λ m r. run a opts (drop (i + 1) piece) m r)) e)
+      (λ m r. run a opts (drop (i + 1) piece) m r)) e)
 
   -- the piece's end
   pub is-all : length piece ≤ i → Over a opts piece s₀ room s all i wrote

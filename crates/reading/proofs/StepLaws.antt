@@ -64,8 +64,12 @@ module _ (a : ℕ) (h : a < 6) (s : State) (f : Sound a s) where
       let g : 8 ≤ heldBits a s + bits a = ltb-false _ _ m in
       let e : 8 + n ≡ heldBits a s + bits a = omega arith in (
         record {
-          sound = record { held = rw (left-then g) (mod-lt (s .held * 2 ^ bits a + v) (pow-pos n)); digits = omega
-              (arith, f .digits); pads = omega arith };
+          sound = record {
+            held = rw (left-then g) (mod-lt (s .held * 2 ^ bits a + v) (pow-pos n));
+            digits = omega
+                (arith, f .digits);
+            pads = omega arith;
+          };
           one = refl;
         },
         shr-lt 8 n (subst (λ (k : ℕ). s .held * 2 ^ bits a + v < 2 ^ k) (sym e) (joined l)),
@@ -76,7 +80,7 @@ module _ (a : ℕ) (h : a < 6) (s : State) (f : Sound a s) where
   keeps-pad opts =
       either (Keeps a s) (ltb 0 (s .pads)) (λ e. either (Keeps a s) (eqb (s .pads) (wants a s)) (λ e. tt) (λ e. more))
       (λ e. either (Keeps a s) (eqb (wants a s) 0) (λ e. tt) (λ e. either (Keeps a s) (not (eqb (s .held) 0) && not (anySpare opts))
-          (λ e. tt) (λ e. more)))
+      (λ e. tt) (λ e. more)))
     where
       more : Next a s (record { digits = s .digits; held = s .held; pads = s .pads + 1; taken = s .taken + 1 })
       more = record { sound = record { held = f .held; digits = omega (arith, f .digits); pads = omega (arith, f .pads) }; one = refl }

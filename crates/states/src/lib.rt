@@ -1,13 +1,13 @@
 // "Answer 9 is given exactly when no sequence of calls from a start gives that state": the test of a state.
-use rule::choice::chosen;
-use rule::state::ready;
+use reading::limit;
 use rule::Cause;
 use rule::Core;
 use rule::End;
+use rule::choice::chosen;
 use rule::dropped;
 use rule::ending;
+use rule::state::ready;
 use rule::wants;
-use reading::limit;
 ghost use mathlib.Core.Path.{_≡_};
 ghost use Rattle.reading.specs.Reader as Reader;
 ghost use Rattle.rule.specs.Meaning.{stateOf, number};

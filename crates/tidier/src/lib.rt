@@ -1,10 +1,10 @@
 // The tidier: the cleaned text of an accepted one. The text is read twice: it is counted, and its digits are written in the alphabet's own case.
-use table::Symbol;
 use answer::Count;
 use answer::Kind;
 use answer::Outcome;
 use answer::Place;
 use block::judging::outcome;
+use table::Symbol;
 ghost use mathlib.Core.Path.{_≡_};
 ghost use mathlib.Core.Bool.{true};
 ghost use mathlib.Core.List.{_∷_, [], _++_};

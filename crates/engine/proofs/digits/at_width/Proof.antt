@@ -97,8 +97,11 @@ cast-z-2 c = omega (arith, low c)
 add-z : tie.Need-add-z Inv-loop μ-loop
 add-z c =
     let h = head c in
-    omega (arith, plain-joins (known h) (h .loop .inv) (start h .pre .0) (ready h) (c .before .before .before .loop-test .taken)
-        (inside c) refl (c .if1 .left) (start h .pre .1 .1 .0))
+    omega (
+      arith,
+      plain-joins (known h) (h .loop .inv) (start h .pre .0) (ready h) (c .before .before .before .loop-test .taken)
+          (inside c) refl (c .if1 .left) (start h .pre .1 .1 .0),
+    )
 
 add-s : tie.Need-add-s Inv-loop μ-loop
 add-s c = let h = c .before .before .before .before in omega (arith, wide h, plain-few (known h) (h .loop .inv))
@@ -118,7 +121,7 @@ loop-again c =
     let h = head e in
     let p = start h .pre in
     plain-holds (known h) (h .loop .inv) (p .0) (ready h) (e .before .before .before .loop-test .taken) (inside e) refl (e .if1 .left)
-        (p .1 .1 .0)
+    (p .1 .1 .0)
     (c .if2 .taken)
 
 after-requires-2 : tie.Need-after-requires-2 Inv-loop μ-loop
@@ -161,7 +164,7 @@ loop-again-2 c =
     let h = head e in
     let p = start h .pre in
     plain-gives (known h) (h .loop .inv) (p .0) (ready h) (e .before .before .before .loop-test .taken) (inside e) refl (e .if1 .left)
-        (p .1 .1 .0)
+    (p .1 .1 .0)
     (c .before .if2 .left) (omega (arith, plain-size (known h) (h .loop .inv), plain-fits (known h) (h .loop .inv), c .if3 .left))
 
 after-requires-3 : tie.Need-after-requires-3 Inv-loop μ-loop

@@ -29,10 +29,16 @@ at-width-requires-3 : tie.Need-at-width-requires-3
 at-width-requires-3 c κs =
     let b = c .before .before in
     let s = b .before .before .before .before in
-    let r = c .before .match .rest in
-    (s .pre .0,
-        (s .pre .1 .0, (omega (arith, bits-low _ (s .pre .1 .0), bits-high _ (s .pre .1 .0), b .bits .ensures, r .0 .1, r .1),
-            (omega (arith, b .before .if1 .left), s .pre .1 .1))))
+    let r = c .before .match .rest in (
+      s .pre .0,
+      (
+        s .pre .1 .0,
+        (
+          omega (arith, bits-low _ (s .pre .1 .0), bits-high _ (s .pre .1 .0), b .bits .ensures, r .0 .1, r .1),
+          (omega (arith, b .before .if1 .left), s .pre .1 .1),
+        ),
+      ),
+    )
 
 same-length : tie.Need-same-length
 same-length c = search needs

@@ -33,10 +33,19 @@ loop-less c = search needs
 loop-again : tie.Need-loop-again Inv-loop μ-loop
 loop-again c =
     let h = c .before .before in
-    let s = h .before in
-    (rw (length-set) (h .loop .inv .0),
-        (omega arith, rw (add-one, take-suc-set (h .loop .aside) (h .loop .i) _ (omega (arith, h .loop .inv .0)), take-suc
-            (s .args .part .now) (h .loop .i) 0 (c .before .loop-test .taken), h .loop .inv .1 .1)))
+    let s = h .before in (
+      rw (length-set) (h .loop .inv .0),
+      (
+        omega arith,
+        rw (
+          add-one,
+          take-suc-set (h .loop .aside) (h .loop .i) _ (omega (arith, h .loop .inv .0)),
+          take-suc
+              (s .args .part .now) (h .loop .i) 0 (c .before .loop-test .taken),
+          h .loop .inv .1 .1,
+        ),
+      ),
+    )
 
 returns : tie.Need-returns Inv-loop μ-loop
 returns c =

@@ -32,10 +32,14 @@ tally-requires : tie.Need-tally-requires
 tally-requires c κs =
     let m = c .before .before in
     let t = m .before in
-    let f = t .before .before .before in
-    (t .table .ensures,
-        (tested t, start-ready (f .fresh .ensures)
-            (omega (arith, below-fits 0 (f .before .before .args .text .now) (m .below-limit .ensures)))))
+    let f = t .before .before .before in (
+      t .table .ensures,
+      (
+        tested t,
+        start-ready (f .fresh .ensures)
+            (omega (arith, below-fits 0 (f .before .before .args .text .now) (m .below-limit .ensures))),
+      ),
+    )
 
 at-limit-requires : tie.Need-at-limit-requires
 at-limit-requires c κs = search needs

@@ -53,7 +53,7 @@ abbrev out : tie.After-stretch Inv-loop μ-loop → List ℕ
 out y =
     let l = head (test y) .loop in
     take (l .s .wrote) (l .out) ++ (y .stretch .last .1 .1 .1 .1 .1 .0 ++ drop (length (l .out) - l .s .wrote)
-        (drop (l .s .wrote) (l .out)))
+    (drop (l .s .wrote) (l .out)))
 
 -- after the stretch
 next : (y : tie.After-stretch Inv-loop μ-loop)
@@ -115,7 +115,7 @@ loop-again c =
     let y = c .before .before .before in
     let s = start (head (test y)) in
     subst (Reached (s .args .alphabet) (s .args .options) (s .args .start) (s .args .piece .now) (s .args .out .now) (out y))
-        (sym (c .then .ensures)) (next y)
+    (sym (c .then .ensures)) (next y)
 
 same-length : tie.Need-same-length Inv-loop μ-loop
 same-length c = let h = c .before .before in reached-size (known h) (so-far h)

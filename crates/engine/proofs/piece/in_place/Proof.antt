@@ -37,10 +37,14 @@ settle-requires : tie.Need-settle-requires
 settle-requires c κs =
     let m = c .before .before in
     let t = m .before in
-    let f = t .before .before .before in
-    (t .table .ensures,
-        (tested t, start-ready (f .fresh .ensures)
-            (omega (arith, below-fits 0 (f .before .before .args .buf .now) (m .below-limit .ensures)))))
+    let f = t .before .before .before in (
+      t .table .ensures,
+      (
+        tested t,
+        start-ready (f .fresh .ensures)
+            (omega (arith, below-fits 0 (f .before .before .args .buf .now) (m .below-limit .ensures))),
+      ),
+    )
 
 at-limit-requires : tie.Need-at-limit-requires
 at-limit-requires c κs = search needs
@@ -58,7 +62,7 @@ returns c =
     let l = take (m .below-limit .result) (s .args .buf .now) in (
       fresh-is (s .args .alphabet) (s .args .options) (s .args .buf .now) (tested t) (m .below-limit .ensures)
           (from-start (s .args .alphabet) (s .args .options) (length l) l (f .fresh .ensures) (y .settle .ensures .0))
-              (c .at-limit .ensures),
+          (c .at-limit .ensures),
       fresh-filled (s .args .alphabet) (s .args .options) (s .args .buf .now) (tested t) (m .below-limit .ensures)
           (filled-start (s .args .alphabet) (s .args .options) (length l) l l (f .fresh .ensures) (y .settle .ensures .1)),
     )
@@ -71,7 +75,7 @@ returns-2 c =
     let a = c .before .before in
     let s = a .before .before .before in
     fresh-none (s .args .alphabet) (s .args .options) (s .args .buf .now) (sym (a .allowed .ensures) ∙ c .before .if1 .left)
-        (c .unfit .ensures ∙ unfit-start (a .before .fresh .ensures))
+    (c .unfit .ensures ∙ unfit-start (a .before .fresh .ensures))
 
 pub in-place-spec : {M : Type 1} → statement M
 in-place-spec =

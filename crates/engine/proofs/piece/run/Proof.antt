@@ -27,9 +27,10 @@ fill-requires : tie.Need-fill-requires
 fill-requires c κs =
     let m = c .before .before .before in
     let t = m .before in
-    let s = t .before .before .before .before .before in
-    (t .table .ensures,
-        (tested t .choice, ready-for (tested t) (below-fits (s .args .start .taken) (s .args .piece .now) (m .below-limit .ensures))))
+    let s = t .before .before .before .before .before in (
+      t .table .ensures,
+      (tested t .choice, ready-for (tested t) (below-fits (s .args .start .taken) (s .args .piece .now) (m .below-limit .ensures))),
+    )
 
 at-limit-requires : tie.Need-at-limit-requires
 at-limit-requires c κs = search needs
@@ -44,8 +45,8 @@ returns c =
     let t = m .before in
     let s = t .before .before .before .before .before in
     run-told (s .args .alphabet) (s .args .options) (s .args .start) (s .args .piece .now) (s .args .out .now)
-        (sym (t .before .before .ready .ensures) ∙ t .before .if1 .taken) (m .below-limit .ensures) (f .fill .ensures)
-            (c .at-limit .ensures)
+    (sym (t .before .before .ready .ensures) ∙ t .before .if1 .taken) (m .below-limit .ensures) (f .fill .ensures)
+    (c .at-limit .ensures)
 
 unfit-requires : tie.Need-unfit-requires
 unfit-requires c κs = search needs

@@ -86,7 +86,7 @@ next f =
     let y = from f in
     let h = head y in
     settled-then (h .loop .s) (known h) (so-far h .count .goes (all y)) (ends y) (is-part y) (fits f) (f .fill .ensures .0)
-        (so-far h .front) (f .fill .ensures .1)
+    (so-far h .front) (f .fill .ensures .1)
 
 -- ---- the needs
 
@@ -136,9 +136,14 @@ fill-requires : tie.Need-fill-requires Inv-loop μ-loop
 fill-requires c κs =
     let y = c .before .before in
     let h = head y in
-    let s = start h in
-    (s .pre .0, (s .pre .1 .0, subst (λ (p : List ℕ). Ready (s .args .alphabet) (h .loop .s .core) (length p)) (sym (is-part y))
-        (part-ready (so-far h .count .goes (all y)) (ends y) (s .pre .1 .1))))
+    let s = start h in (
+      s .pre .0,
+      (
+        s .pre .1 .0,
+        subst (λ (p : List ℕ). Ready (s .args .alphabet) (h .loop .s .core) (length p)) (sym (is-part y))
+            (part-ready (so-far h .count .goes (all y)) (ends y) (s .pre .1 .1)),
+      ),
+    )
 
 then-requires : tie.Need-then-requires Inv-loop μ-loop
 then-requires c κs =
@@ -153,7 +158,7 @@ loop-less c =
     let y = from f in
     let h = head y in
     left-less (h .loop .s) (f .fill .result) (length (start h .args .buf .now)) (all y) (omega (arith, size h, going (end y .before) .1))
-        (c .then .ensures)
+    (c .then .ensures)
     (counted-some (h .loop .s) (known h) (so-far h .count .goes (all y)) (ends y) (is-part y) (fits f) (f .fill .ensures .0))
 
 loop-again : tie.Need-loop-again Inv-loop μ-loop
@@ -169,7 +174,7 @@ returns : tie.Need-returns Inv-loop μ-loop
 returns c =
     let h = c .before .before in
     settled-done (known h) (so-far h) (ap (goesOn (h .loop .s .why) (h .loop .s .took)) (sym (size h)) ∙ sym (c .before .goes-on .ensures)
-        ∙ c .if1 .left)
+    ∙ c .if1 .left)
 
 pub settle-spec : {M : Type 1} → statement M
 settle-spec =

@@ -49,9 +49,11 @@ rare-requires c κs =
 put-requires : tie.Need-put-requires
 put-requires c κs =
     let r = c .before in
-    let p = digits r in
-    (omega (arith, r .before .before .if1 .left, start p .pre .1 .1 .within, limit-small), omega
-        (arith, same-size (known p) (passed p), passed p .loop .fits))
+    let p = digits r in (
+      omega (arith, r .before .before .if1 .left, start p .pre .1 .1 .within, limit-small),
+      omega
+          (arith, same-size (known p) (passed p), passed p .loop .fits),
+    )
 
 same-length-2 : tie.Need-same-length-2
 same-length-2 c = search needs
@@ -62,7 +64,7 @@ returns-2 c =
     let r = y .before .before in
     let p = digits r in
     stretch-put (r .rare .result) (known p) (passed p) (r .before .before .if1 .left) (r .rare .ensures) refl (y .put .ensures .0)
-        (y .put .ensures .1)
+    (y .put .ensures .1)
 
 pub stretch-spec : {M : Type 1} → statement M
 stretch-spec =
