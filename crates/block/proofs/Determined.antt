@@ -4,7 +4,13 @@ use mathlib.Core.Path.{_≡_, sym, _∙_}
 use mathlib.Core.List.{List}
 use Rattle.answer.specs.declared.Outcome.{Outcome}
 use Rattle.answer.proofs.ToldLaws.{told-determines}
+use Rattle.answer.specs.Told.{told}
+use Rattle.engine.specs.declared.piece.Ran.{Ran}
+use Rattle.block.specs.Answered.{answered}
 use Rattle.block.specs.Calls.{JudgeAs, ReadAs, InPlaceAs}
+
+pub outcome-determined : (a opts : ℕ) (ran : Ran) {r s : Outcome} → told r ≡ answered a opts ran → told s ≡ answered a opts ran → r ≡ s
+outcome-determined a opts ran {r} {s} x y = told-determines r s (x ∙ sym y)
 
 pub judge-determined : (a opts : ℕ) (t : List ℕ) {r s : Outcome} → JudgeAs a opts t r → JudgeAs a opts t s → r ≡ s
 judge-determined a opts t {r} {s} x y = told-determines r s (x .is ∙ sym (y .is))
