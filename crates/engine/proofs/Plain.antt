@@ -41,6 +41,9 @@ pub record Plain (a : ℕ) (start : Core) (piece out₀ out : List ℕ) (h r i n
 pub digits-below : {a : ℕ} {k : Core} {m : ℕ} → Ready a k m → k .digits ≤ limit
 digits-below q = omega (arith, q .sound .digits, q .within)
 
+pub plain-fit : {a : ℕ} {k : Core} {m : ℕ} → Ready a k m → m < 2 ^ 40
+plain-fit q = omega (arith, q .within, limit-small)
+
 pub plain-begins : (a : ℕ) (k : Core) (piece out : List ℕ) → Ready a k (length piece) → k .pads ≡ 0 → {r : ℕ} → r ≡ bits a * k .digits % 8
     → Plain a k piece out out (k .held) r 0 0
 unfolding heldBits

@@ -283,17 +283,6 @@ fn at_limit(r: Ran, len: usize) -> Ran
     r
 }
 
-fn unfit(core: Core) -> Ran
-    ensures { λ r. ⌜ r ≡ Spec.unfit core ⌝ }
-{
-    Ran {
-        core,
-        why: Why::Unfit,
-        took: 0,
-        wrote: 0,
-    }
-}
-
 // A piece into a buffer, from any state.
 pub fn run(alphabet: usize, options: usize, start: Core, piece: &[u8], out: &mut [u8]) -> Ran
     ensures { λ r. ⌜ r ≡ Spec.runAs alphabet options start (now (piece .entry)) (length (now (out .entry))) ⌝ }
@@ -305,7 +294,12 @@ pub fn run(alphabet: usize, options: usize, start: Core, piece: &[u8], out: &mut
         let r = fill(&t, alphabet, options, start, &piece[..m], out);
         return at_limit(r, piece.len());
     }
-    unfit(start)
+    Ran {
+        core: start,
+        why: Why::Unfit,
+        took: 0,
+        wrote: 0,
+    }
 }
 
 // A whole text, counted alone.
@@ -319,7 +313,12 @@ pub fn count(alphabet: usize, options: usize, text: &[u8]) -> Ran
         let r = tally(&t, alphabet, options, start, &text[..m]);
         return at_limit(r, text.len());
     }
-    unfit(start)
+    Ran {
+        core: start,
+        why: Why::Unfit,
+        took: 0,
+        wrote: 0,
+    }
 }
 
 // A whole text in place.
@@ -335,5 +334,10 @@ pub fn in_place(alphabet: usize, options: usize, buf: &mut [u8]) -> Ran
         let r = settle(&t, alphabet, options, start, &mut buf[..m]);
         return at_limit(r, len);
     }
-    unfit(start)
+    Ran {
+        core: start,
+        why: Why::Unfit,
+        took: 0,
+        wrote: 0,
+    }
 }

@@ -42,6 +42,3 @@ is-ready a opts k e =
 
 pub small-product : (a d : ℕ) → a < 6 → d ≤ limit → bits a * d < 2 ^ 40
 small-product a d h l = omega (arith, mul-le-mul-right d (bits-high a h), limit-small)
-
-pub one-shifted : (b d : ℕ) → (1 * 2 ^ (b * d % 8)) % 2 ^ 64 ≡ 2 ^ (b * d % 8)
-one-shifted b d = shl-exact 1 (b * d % 8) 64 (omega arith) (omega arith) ∙ one-mul (2 ^ (b * d % 8))

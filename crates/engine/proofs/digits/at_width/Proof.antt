@@ -3,11 +3,10 @@ use Prim.Native.Nat.{ℕ, _+_, _-_, _*_, _%_, _<_, _≤_}
 use mathlib.Core.Path.{refl, ap}
 use native.Mathlib.Omega.{arith}
 use lib.ListN.{length, getD}
-use borrow.Author.Needs.{needs}
 use Rattle.alphabet.proofs.AlphabetLaws.{bits-high}
 use Rattle.engine.specs.Ran.{Ready}
 use Rattle.rule.proofs.Readiness.{small-product}
-use Rattle.engine.proofs.Plain.{Plain, digits-below, plain-begins, plain-few, plain-size, plain-fits, plain-sums}
+use Rattle.engine.proofs.Plain.{Plain, digits-below, plain-fit, plain-begins, plain-few, plain-size, plain-fits, plain-sums}
 use Rattle.engine.proofs.Plain.{plain-passes, byte-small, plain-joins, plain-holds, plain-gives}
 use Rattle.engine.proofs.digits.at_width.Statement.{statement}
 use Rattle.engine.proofs.digits.at_width.Tie as tie
@@ -53,7 +52,7 @@ low e = let h = head e in byte-small (known h) (h .loop .inv) (start h .pre .0) 
 -- ---- the needs
 
 mul-row : tie.Need-mul-row Inv-loop μ-loop
-mul-row c = search needs
+mul-row c = omega (arith, c .before .before .pre .1 .0)
 
 mul-r : tie.Need-mul-r Inv-loop μ-loop
 mul-r c = let p = c .before .before .before .pre in
@@ -64,7 +63,7 @@ loop-holds c = let p = c .before .before .before .pre in
     plain-begins _ _ _ _ (p .1 .1 .1 .1) (p .1 .1 .1 .0) (ap (λ (b : ℕ). b * c .before .before .before .args .k .digits % 8) (p .1 .1 .0))
 
 shared-slice-read-at : tie.Need-shared-slice-read-at Inv-loop μ-loop
-shared-slice-read-at c = search needs
+shared-slice-read-at c = c .before .loop-test .taken
 
 cast-at : tie.Need-cast-at Inv-loop μ-loop
 cast-at c = omega (arith, c .shared-slice-known2 .given (c .before .before .loop .i))
@@ -107,13 +106,13 @@ add-s : tie.Need-add-s Inv-loop μ-loop
 add-s c = let h = c .before .before .before .before in omega (arith, wide h, plain-few (known h) (h .loop .inv))
 
 cast-h : tie.Need-cast-h Inv-loop μ-loop
-cast-h c = search needs
+cast-h c = omega arith
 
 add-i : tie.Need-add-i Inv-loop μ-loop
-add-i c = search needs
+add-i c = let e = c .before in omega (arith, e .before .before .before .loop-test .taken, plain-fit (ready (head e)))
 
 loop-less : tie.Need-loop-less Inv-loop μ-loop
-loop-less c = search needs
+loop-less c = omega (arith, c .before .before .before .before .loop-test .taken)
 
 loop-again : tie.Need-loop-again Inv-loop μ-loop
 loop-again c =
@@ -139,7 +138,7 @@ shr-out : tie.Need-shr-out Inv-loop μ-loop
 shr-out c = let h = c .before .before .before .before .before .before in omega (arith, wide h, plain-few (known h) (h .loop .inv))
 
 cast-out : tie.Need-cast-out Inv-loop μ-loop
-cast-out c = search needs
+cast-out c = omega arith
 
 slice-write-out : tie.Need-slice-write-out Inv-loop μ-loop
 slice-write-out c = let h = c .before .before .before .before .before .before in
@@ -150,13 +149,13 @@ add-n c = let h = c .before .before .before .before .before .before in
     omega (arith, plain-size (known h) (h .loop .inv), plain-fits (known h) (h .loop .inv), c .if3 .left)
 
 cast-h-2 : tie.Need-cast-h-2 Inv-loop μ-loop
-cast-h-2 c = search needs
+cast-h-2 c = omega arith
 
 add-i-2 : tie.Need-add-i-2 Inv-loop μ-loop
-add-i-2 c = search needs
+add-i-2 c = let e = c .before .before in omega (arith, e .before .before .before .loop-test .taken, plain-fit (ready (head e)))
 
 loop-less-2 : tie.Need-loop-less-2 Inv-loop μ-loop
-loop-less-2 c = search needs
+loop-less-2 c = omega (arith, c .before .before .before .before .before .loop-test .taken)
 
 loop-again-2 : tie.Need-loop-again-2 Inv-loop μ-loop
 loop-again-2 c =

@@ -55,15 +55,12 @@ returns c =
     fresh-is (s .args .alphabet) (s .args .options) (s .args .text .now) (tested t) (m .below-limit .ensures)
     (from-start (s .args .alphabet) (s .args .options) (length l) l (f .fresh .ensures) (y .tally .ensures)) (c .at-limit .ensures)
 
-unfit-requires : tie.Need-unfit-requires
-unfit-requires c κs = search needs
-
 returns-2 : tie.Need-returns-2
 returns-2 c =
-    let a = c .before .before in
+    let a = c .before in
     let s = a .before .before .before in
-    fresh-none (s .args .alphabet) (s .args .options) (s .args .text .now) (sym (a .allowed .ensures) ∙ c .before .if1 .left)
-    (c .unfit .ensures ∙ unfit-start (a .before .fresh .ensures)) .0
+    fresh-none (s .args .alphabet) (s .args .options) (s .args .text .now) (sym (a .allowed .ensures) ∙ c .if1 .left)
+    (unfit-start (a .before .fresh .ensures)) .0
 
 pub count-spec : {M : Type 1} → statement M
 count-spec =
@@ -77,5 +74,4 @@ count-spec =
     tally-requires
     at-limit-requires
     returns
-    unfit-requires
     returns-2)

@@ -67,15 +67,12 @@ returns c =
           (filled-start (s .args .alphabet) (s .args .options) (length l) l l (f .fresh .ensures) (y .settle .ensures .1)),
     )
 
-unfit-requires : tie.Need-unfit-requires
-unfit-requires c κs = search needs
-
 returns-2 : tie.Need-returns-2
 returns-2 c =
-    let a = c .before .before in
+    let a = c .before in
     let s = a .before .before .before in
-    fresh-none (s .args .alphabet) (s .args .options) (s .args .buf .now) (sym (a .allowed .ensures) ∙ c .before .if1 .left)
-    (c .unfit .ensures ∙ unfit-start (a .before .fresh .ensures))
+    fresh-none (s .args .alphabet) (s .args .options) (s .args .buf .now) (sym (a .allowed .ensures) ∙ c .if1 .left)
+    (unfit-start (a .before .fresh .ensures))
 
 pub in-place-spec : {M : Type 1} → statement M
 in-place-spec =
@@ -91,5 +88,4 @@ in-place-spec =
     at-limit-requires
     same-length
     returns
-    unfit-requires
     returns-2)

@@ -1,5 +1,5 @@
 -- `piece::run`: a ready state and what lies below the limit, or nothing. Assumes nothing.
-use mathlib.Core.Path.{sym, _∙_}
+use mathlib.Core.Path.{refl, sym, _∙_}
 use borrow.Author.Needs.{needs}
 use Rattle.rule.proofs.Readiness.{IsReady, is-ready}
 use Rattle.engine.proofs.AtLimit.{ready-for, below-length, below-fits, run-told, run-none}
@@ -48,11 +48,8 @@ returns c =
     (sym (t .before .before .ready .ensures) ∙ t .before .if1 .taken) (m .below-limit .ensures) (f .fill .ensures)
     (c .at-limit .ensures)
 
-unfit-requires : tie.Need-unfit-requires
-unfit-requires c κs = search needs
-
 returns-2 : tie.Need-returns-2
-returns-2 c = run-none _ _ _ _ _ (sym (c .before .before .ready .ensures) ∙ c .before .if1 .left) (c .unfit .ensures)
+returns-2 c = run-none _ _ _ _ _ (sym (c .before .ready .ensures) ∙ c .if1 .left) refl
 
 pub run-spec : {M : Type 1} → statement M
 run-spec =
@@ -66,5 +63,4 @@ run-spec =
     at-limit-requires
     same-length
     returns
-    unfit-requires
     returns-2)
