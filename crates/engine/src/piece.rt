@@ -1,5 +1,5 @@
-// The loops over a piece: into a second buffer, in place, and counting alone. Each takes the table once, and asks `on_digit` for a byte that
-// is a digit as it stands and `rare` for any other, so that the common byte costs no call.
+// The runs over a piece: into a second buffer, in place, and counting alone. A run into a buffer goes by stretches, digits as they stand and
+// the byte after them; the other two go by parts of the text, each of which is a run into a buffer.
 use crate::digits::Passed;
 use crate::digits::pass;
 use crate::step::Took;
@@ -142,6 +142,7 @@ fn stretch(
     put(p, byte, out)
 }
 
+// A piece into a buffer, in stretches.
 fn fill(
     t: &[u8; 1536],
     alphabet: usize,

@@ -23,7 +23,7 @@ pub enum Took {
 }
 
 // A digit of value v and b bits: after padding it is refused; else its bits join the held ones, and perhaps complete a byte.
-pub(crate) fn on_digit(alphabet: usize, b: usize, k: Core, v: u8) -> Took
+fn on_digit(alphabet: usize, b: usize, k: Core, v: u8) -> Took
     requires { ⌜ b ≡ Alphabet.bits alphabet ⌝ }
     requires { ⌜ alphabet < 6 ⌝ }
     requires { ⌜ Fit alphabet k ⌝ }
@@ -94,7 +94,7 @@ fn on_pad(alphabet: usize, options: usize, k: Core) -> Took
     Took::Refuses(Cause::Spare)
 }
 
-// What any byte does. A loop asks it for bytes that are no digit as they stand, and `on_digit` for those that are.
+// What any byte does. It is asked of bytes that are no digit as they stand, since `digits.rt` takes those that are.
 pub(crate) fn rare(t: &[u8; 1536], alphabet: usize, options: usize, k: Core, byte: u8) -> Took
     requires { ⌜ now t ≡ entries ⌝ }
     requires { ⌜ alphabet < 6 ⌝ }
