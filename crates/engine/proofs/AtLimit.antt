@@ -1,36 +1,28 @@
 -- The limit, as the code applies it: a piece that goes past it is cut there. Assumes nothing.
-use Prim.Native.Nat.{ℕ, _+_, _-_, _*_, _^_, _<_, _≤_}
+use Prim.Native.Nat.{ℕ, _+_, _-_, _<_, _≤_}
 use mathlib.Core.Path.{_≡_, refl, sym, ap, _∙_, subst}
-use mathlib.Core.Bool.{Bool, true, false, cond, _&&_}
+use mathlib.Core.Bool.{Bool, true, false, cond}
 use mathlib.Core.List.{List, [], _++_, append-assoc}
-use native.Mathlib.Nat.{mul-le-mul-right}
 use native.Mathlib.Omega.{arith}
-use lib.Dec.{T, leb, ltb}
+use lib.Dec.{ltb}
 use lib.ListN.{length, take, drop, take-append-drop}
 use lib.Seq.{length-take-le, take-length, drop-append-le}
-use borrow.Author.Tests.{lt-ltb, le-ltb, ltb-true, ltb-false, leb-true}
-use Rattle.alphabet.specs.Alphabet.{bits}
-use Rattle.alphabet.proofs.AlphabetLaws.{bits-high}
+use borrow.Author.Tests.{lt-ltb, le-ltb, ltb-true, ltb-false}
 use Rattle.reading.specs.Options.{allowed}
 use Rattle.reading.specs.Limit.{limit}
-use Rattle.reading.specs.Reader.{State, fresh, heldBits}
-use Rattle.reading.specs.Sound.{Sound}
+use Rattle.reading.specs.Reader.{State, fresh}
 use Rattle.reading.specs.Piece as P
 use Rattle.reading.specs.Piece.{run, runPiece, atLimitRan}
-use Rattle.reading.proofs.LimitLaws.{limit-small}
 use Rattle.reading.proofs.StepLaws.{fresh-sound}
 use Rattle.reading.proofs.RunRoom.{run-room}
 use Rattle.reading.proofs.PieceLaws.{run-feeds}
 use Rattle.rule.specs.declared.Core.{Core}
 use Rattle.rule.proofs.Readiness.{IsReady}
 use Rattle.engine.specs.declared.piece.Ran.{Ran}
-use Rattle.rule.specs.Meaning.{stateOf}
+use Rattle.rule.specs.Meaning.{stateOf, causeOf, coreOf}
 use Rattle.reading.specs.Buffer.{filled}
-use Rattle.rule.specs.Meaning.{causeOf}
-use Rattle.rule.specs.State.{ready, small}
-use Rattle.engine.specs.Ran.{whyAs, goesOn, ranAs, below, limited, Ready, unfit, runAs, runBytes, freshAs}
-use Rattle.rule.specs.Meaning.{coreOf}
-use Rattle.engine.specs.Ran.{freshBytes}
+use Rattle.rule.specs.State.{ready}
+use Rattle.engine.specs.Ran.{whyAs, goesOn, ranAs, below, limited, Ready, unfit, runAs, runBytes, freshAs, freshBytes}
 
 -- ---- what lies below the limit
 

@@ -18,8 +18,7 @@ use Rattle.reading.specs.Reader.{fresh}
 use Rattle.reading.specs.Piece as P
 use Rattle.reading.specs.Piece.{runPiece}
 use Rattle.engine.specs.declared.piece.Why.the-variants as W
-use Rattle.rule.specs.Meaning.{number}
-use Rattle.rule.specs.Meaning.{coreOf, causeOf}
+use Rattle.rule.specs.Meaning.{number, coreOf, causeOf}
 use Rattle.rule.specs.State.{small, ready}
 use Rattle.engine.specs.Ran.{whyAs, ranAs, unfit, runAs, runBytes, freshAs, freshBytes}
 

@@ -14,16 +14,14 @@ use Rattle.reading.proofs.StepLaws.{Next, Keeps, keeps}
 use Rattle.reading.proofs.RunSteps.{Going, after-after, begins, goes-on, gives-one, is-full, is-refused, is-all}
 use Rattle.rule.specs.declared.Core.{Core}
 use Rattle.rule.specs.declared.Cause.{Cause}
-use Rattle.rule.specs.declared.Cause.the-variants as C
 use Rattle.rule.proofs.Causes.{cause-back}
 use Rattle.engine.specs.declared.step.Took.{Took}
 use Rattle.engine.specs.declared.step.Took.the-variants.{Takes, Gives, Refuses}
 use Rattle.engine.specs.declared.piece.Why.the-variants as W
 use Rattle.engine.specs.declared.piece.Ran.{Ran}
-use Rattle.rule.specs.Meaning.{stateOf, number}
+use Rattle.rule.specs.Meaning.{stateOf}
 use Rattle.engine.specs.Meaning.{stepOf, Fit}
 use Rattle.reading.specs.Buffer.{filled}
-use Rattle.rule.specs.Meaning.{causeOf}
 use Rattle.engine.specs.Ran.{whyAs, ranAs, Ready}
 use Rattle.engine.specs.Loop.{Loop, Filling}
 

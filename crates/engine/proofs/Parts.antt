@@ -19,8 +19,7 @@ use Rattle.reading.proofs.PieceLaws.{RunFeeds, run-feeds}
 use Rattle.rule.specs.declared.Core.{Core}
 use Rattle.engine.specs.declared.piece.Why.the-variants as W
 use Rattle.engine.specs.declared.piece.Ran.{Ran}
-use Rattle.rule.specs.Meaning.{stateOf}
-use Rattle.rule.specs.Meaning.{coreOf}
+use Rattle.rule.specs.Meaning.{stateOf, coreOf}
 use Rattle.engine.specs.Ran.{whyAs, goesOn, thenAs, ranAs, Ready}
 use Rattle.engine.specs.Loop.{Loop, Part}
 use Rattle.engine.proofs.Loops.{loop-begins, loop-all, rest-all, stored-lent}

@@ -21,9 +21,8 @@ use Rattle.engine.specs.declared.digits.Passed.{Passed}
 use Rattle.engine.specs.declared.piece.Why.{Why}
 use Rattle.engine.specs.declared.piece.Why.the-variants as W
 use Rattle.engine.specs.declared.piece.Ran.{Ran}
-use Rattle.rule.specs.Meaning.{stateOf}
+use Rattle.rule.specs.Meaning.{stateOf, coreOf}
 use Rattle.engine.specs.Meaning.{stepOf}
-use Rattle.rule.specs.Meaning.{coreOf}
 use Rattle.engine.specs.Ran.{whyAs, goesOn, thenAs, ranAs, Ready}
 use Rattle.engine.specs.Loop.{Filling, Reached, Stretch, putAs, putIn}
 use Rattle.engine.proofs.Loops.{filling-begins, filling-lent, filling-takes, filling-gives, filling-done, same-size, loop-full}

@@ -14,8 +14,7 @@ use Rattle.reading.specs.Piece.{runPiece}
 use Rattle.rule.specs.declared.Core.{Core}
 use Rattle.rule.specs.declared.Cause.{Cause}
 use Rattle.rule.specs.declared.Cause.the-variants as C
-use Rattle.rule.specs.Meaning.{stateOf, number}
-use Rattle.rule.specs.Meaning.{causeOf}
+use Rattle.rule.specs.Meaning.{stateOf, number, causeOf}
 use Rattle.rule.specs.State.{small, ready}
 use Rattle.engine.specs.Ran.{ranAs, runAs, runBytes}
 

@@ -1,19 +1,17 @@
 -- What a run over a piece gives, in the engine's types: the definitions of `reading` (Piece) with the answer's shape, and the buffer.
 -- Assumes nothing.
-use Prim.Native.Nat.{ℕ, _+_, _-_, _*_, _%_, _≤_, _^_}
-use mathlib.Core.Bool.{Bool, false, cond, _&&_}
-use mathlib.Core.List.{List, [], _∷_}
-use lib.Dec.{leb, ltb}
-use lib.ListN.{length, getD}
-use Rattle.alphabet.specs.Alphabet.{bits}
+use Prim.Native.Nat.{ℕ, _+_, _-_, _≤_}
+use mathlib.Core.Bool.{Bool, false, cond}
+use mathlib.Core.List.{List, []}
+use lib.Dec.{ltb}
+use lib.ListN.{length}
 use Rattle.reading.specs.Options.{allowed}
 use Rattle.reading.specs.Limit.{limit}
-use Rattle.reading.specs.Reader.{State, fresh}
+use Rattle.reading.specs.Reader.{fresh}
 use Rattle.reading.specs.Sound.{Sound}
 use Rattle.reading.specs.Piece as P
 use Rattle.reading.specs.Piece.{runPiece}
 use Rattle.rule.specs.declared.Core.{Core}
-use Rattle.rule.specs.declared.Cause.{Cause}
 use Rattle.rule.specs.declared.Cause.the-variants as C
 use Rattle.engine.specs.declared.piece.Why.{Why}
 use Rattle.engine.specs.declared.piece.Why.the-variants as W

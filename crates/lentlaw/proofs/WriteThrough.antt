@@ -28,7 +28,7 @@ use denote.Ref.{RefT, now, MutRef}
 use denote.Slice.{sliceTy, sliceVal, MutSlice, Room, finally, slice-vals, mut-slice-tells}
 use denote.Signature.{plain}
 use denote.Steps.{only, owned, peeks, heard, nothing}
-use denote.Struct.Declared.{row, field}
+use denote.Struct.Declared.{row}
 use denote.Struct.Laws as LL
 use denote.Triple.Statement.{Contract, Triple}
 use denote.Triple.Call.{calls-at}

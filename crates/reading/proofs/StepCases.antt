@@ -1,21 +1,19 @@
 -- What a byte does, by what it is in the alphabet: as it stands, or turned. Assumes nothing.
-use Prim.Native.Nat.{ℕ, _<_, _≤_, _^_, _/_, _%_}
+use Prim.Native.Nat.{ℕ, _<_, _^_}
 use mathlib.Core.Path.{_≡_, refl, sym, ap, _∙_, subst}
-use mathlib.Core.Logic.{_⊎_, inl, inr, ⊎-elim}
-use mathlib.Core.Bool.{Bool, true, false, cond, not, _&&_, _||_}
+use mathlib.Core.Bool.{Bool, true, false, not, _&&_}
 use native.Mathlib.Omega.{arith}
-use lib.Dec.{T, eqb, ltb, leb}
-use borrow.Author.Tests.{ltb-true, ltb-false, lt-ltb, le-ltb, lt-leb, le-leb, eqb-true, eqb-false, eq-eqb, ne-eqb}
-use Rattle.alphabet.specs.Alphabet.{bits, value, digit, isDigit, isPad, pad}
+use lib.Dec.{T, ltb}
+use borrow.Author.Tests.{ltb-true, ltb-false, lt-ltb}
+use Rattle.alphabet.specs.Alphabet.{bits, value, isDigit, isPad, pad}
 use Rattle.table.specs.Table.{symbolOf}
-use Rattle.table.specs.declared.Symbol.{Symbol}
 use Rattle.table.specs.declared.Symbol.the-variants.{Digit, Pad, Neither}
 use Rattle.alphabet.proofs.Symbols.{IsDigit, is-digit, is-pad, digit-printable}
 use Rattle.alphabet.proofs.Edges.{digit-own}
 use Rattle.table.proofs.TableLaws.{symbol-digit, symbol-pad, symbol-neither}
-use Rattle.reading.specs.Options.{chosen, lines, blank, anyCase, allowed}
-use Rattle.reading.specs.Cleaning.{dropped, turned, upper, lower}
-use Rattle.reading.specs.Reader.{State, Step, takes, gives, refuses, passes, onDigit, onPad, step}
+use Rattle.reading.specs.Options.{anyCase, allowed}
+use Rattle.reading.specs.Cleaning.{dropped, turned}
+use Rattle.reading.specs.Reader.{State, takes, refuses, passes, onDigit, onPad, step}
 use Rattle.reading.proofs.OptionLaws.{allowed-alphabet}
 use Rattle.reading.proofs.PlainText.{kept-high, own-stays, turned-pad, turned-back}
 

@@ -8,8 +8,7 @@ use Rattle.rule.specs.declared.Cause.{Cause}
 use Rattle.rule.specs.declared.Cause.the-variants as C
 use Rattle.rule.specs.declared.End.{End}
 use Rattle.rule.specs.declared.End.the-variants as E
-use Rattle.rule.specs.Meaning.{number, endOf}
-use Rattle.rule.specs.Meaning.{causeOf}
+use Rattle.rule.specs.Meaning.{number, endOf, causeOf}
 use Rattle.rule.proofs.Causes.{cause-back}
 
 -- two answers that an equation allows are one

@@ -1,11 +1,10 @@
 -- What the test of a state says, and the numbers that it works with. Assumes nothing.
-use Prim.Native.Nat.{ℕ, _*_, _%_, _^_, _<_, _≤_}
-use mathlib.Core.Path.{_≡_, refl, sym, _∙_, subst}
+use Prim.Native.Nat.{ℕ, _*_, _^_, _<_, _≤_}
+use mathlib.Core.Path.{_≡_, refl, sym, subst}
 use mathlib.Core.Bool.{Bool, true, false, _&&_}
-use native.Mathlib.Nat.{mul-le-mul-right, one-mul}
+use native.Mathlib.Nat.{mul-le-mul-right}
 use native.Mathlib.Omega.{arith}
 use lib.Dec.{T, leb}
-use lib.Pow.{shl-exact}
 use borrow.Author.Tests.{ltb-true, leb-true}
 use Rattle.alphabet.specs.Alphabet.{bits}
 use Rattle.alphabet.proofs.AlphabetLaws.{bits-high}

@@ -13,7 +13,7 @@ use Rattle.alphabet.specs.Alphabet.{bits, digit}
 use Rattle.alphabet.proofs.AlphabetLaws.{bits-low, bits-high}
 use Rattle.regroup.proofs.RegroupLaws.{rest-lt}
 use Rattle.spelling.specs.declared.Why.the-variants as W
-use Rattle.spelling.specs.Machine.{stop, after, fullRuns, keeps, whereRoom, spell}
+use Rattle.spelling.specs.Machine.{after, fullRuns, keeps, whereRoom, spell}
 use Rattle.spell.specs.Contracts.{spellOf, Spells, leaving, WentAs}
 use Rattle.spelling.proofs.Cuts.{CutAs, says-one, says-two}
 use Rattle.spell.proofs.Filling.{Filling, fill-none, fill-store, fill-two, fill-stop}

@@ -10,8 +10,7 @@ use Rattle.reading.specs.Reader.{State}
 use Rattle.reading.proofs.Refusals.{Blame, foreign, misplaced, spare, late, Ended, whole, short}
 use Rattle.rule.specs.declared.Cause.{Cause}
 use Rattle.rule.specs.declared.Cause.the-variants as C
-use Rattle.rule.specs.Meaning.{number}
-use Rattle.rule.specs.Meaning.{causeOf}
+use Rattle.rule.specs.Meaning.{number, causeOf}
 use Rattle.engine.proofs.States.{long-number, foreign-number, pad-number, spare-number, after-number, short-number, cause-number}
 use Rattle.states.specs.declared.Status.{Status}
 use Rattle.states.specs.declared.Status.the-variants as U

@@ -21,9 +21,8 @@ use Rattle.rule.specs.declared.Cause.{Cause}
 use Rattle.rule.specs.declared.End.{End}
 use Rattle.rule.specs.declared.End.the-variants as E
 use Rattle.engine.specs.declared.piece.Ran.{Ran}
-use Rattle.rule.specs.Meaning.{stateOf, number, endOf}
+use Rattle.rule.specs.Meaning.{stateOf, number, endOf, coreOf}
 use Rattle.reading.specs.Buffer.{filled}
-use Rattle.rule.specs.Meaning.{coreOf}
 use Rattle.rule.specs.State.{ready}
 use Rattle.engine.specs.Ran.{whyAs, ranAs, runAs, runBytes}
 use Rattle.engine.proofs.FromFresh.{all-as, refused-as, full-as}

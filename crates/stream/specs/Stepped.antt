@@ -13,9 +13,8 @@ use Rattle.answer.specs.declared.Outcome.{Outcome}
 use Rattle.answer.specs.declared.Outcome.the-variants as O
 use Rattle.rule.specs.declared.Cause.{Cause}
 use Rattle.rule.specs.declared.Cause.the-variants as C
-use Rattle.rule.specs.Meaning.{stateOf, number}
+use Rattle.rule.specs.Meaning.{stateOf, coreOf, causeOf}
 use Rattle.reading.specs.Buffer.{filled}
-use Rattle.rule.specs.Meaning.{coreOf, causeOf}
 use Rattle.states.specs.Status.{statusOf}
 use Rattle.states.specs.declared.Status.{Status}
 use Rattle.states.specs.declared.Status.the-variants as U

@@ -6,7 +6,7 @@ use mathlib.Core.Bool.{Bool, _&&_}
 use lib.Dec.{eqb}
 use Rattle.alphabet.specs.Ascii.{ascii}
 use Rattle.reading.specs.Known.{same}
-use Rattle.streaming.specs.Stream.{Stream, freshStream}
+use Rattle.streaming.specs.Stream.{freshStream}
 use Rattle.streaming.specs.Calls.{Called, stepOf}
 
 -- the call takes so many bytes, writes these, and gives this answer at this position

@@ -29,9 +29,8 @@ use Rattle.reading.specs.Buffer.{filled}
 use Rattle.engine.specs.Ran.{freshAs}
 use Rattle.engine.proofs.FromFresh.{fresh-runs}
 use Rattle.block.specs.Whole.{choice, verdict, noRoom, judgeOf}
-use Rattle.tidier.specs.Tidy.{tidyOf, tidyText}
+use Rattle.tidier.specs.Tidy.{tidyOf, tidyText, TidyAs}
 use Rattle.block.specs.Answered.{answered}
-use Rattle.tidier.specs.Tidy.{TidyAs}
 use Rattle.tidier.specs.Spelling.{spelt, Spelled}
 use Rattle.block.proofs.Answers.{promised-of, count-answers}
 use Rattle.tidier.proofs.AcceptedRun.{digits-counted, accepted-spelled}

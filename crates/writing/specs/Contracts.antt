@@ -1,5 +1,5 @@
 -- What the writer's functions promise: the equation that determines the result and the buffer at exit, and what 01 says of them. Assumes nothing.
-use Prim.Native.Nat.{ℕ, _+_, _*_, _%_, _^_, _<_, _≤_}
+use Prim.Native.Nat.{ℕ, _+_}
 use mathlib.Core.Path.{_≡_}
 use mathlib.Core.List.{List, _++_}
 use lib.ListN.{length, take}
@@ -7,10 +7,7 @@ use Rattle.answer.specs.declared.Kind.the-variants as K
 use Rattle.answer.specs.declared.Outcome.{Outcome}
 use Rattle.answer.specs.declared.Outcome.the-variants as O
 use Rattle.answer.specs.Told.{told}
-use Rattle.alphabet.specs.Alphabet.{bits}
-use Rattle.alphabet.specs.Written.{written, writtenLength}
-use Rattle.reading.specs.Limit.{limit}
-use Rattle.spelling.specs.Sound.{Sound}
+use Rattle.alphabet.specs.Written.{written}
 use Rattle.spelling.specs.Front.{ending}
 use Rattle.spelling.specs.Machine.{Run}
 use Rattle.writing.specs.Stream.{at, count, Turn, close, stepOf, finishOf}

@@ -1,6 +1,5 @@
 -- `reading`: the judge's count is asked of the room. Assumes nothing.
 use mathlib.Core.Path.{_≡_, sym, ap, _∙_}
-use Prim.Native.Nat.{ℕ}
 use Rattle.answer.specs.Told.{Told}
 use Rattle.answer.proofs.ToldCases.{told-room}
 use Rattle.block.specs.Whole.{noRoom, judgeOf}

@@ -1,7 +1,6 @@
 -- `last_group`: a remainder, and by 0 the number itself. Assumes nothing.
-use mathlib.Core.Path.{sym, ap, _∙_}
+use mathlib.Core.Path.{sym}
 use native.Mathlib.Nat.{mod-zero}
-use native.Mathlib.Omega.{arith}
 use borrow.Author.Needs.{needs}
 use Rattle.rule.proofs.last_group.Statement.{statement}
 use Rattle.rule.proofs.last_group.Tie as tie

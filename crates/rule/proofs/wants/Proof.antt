@@ -1,5 +1,4 @@
 -- `wants`: the table at the digits of the last group. Assumes nothing.
-use mathlib.Core.Path.{_∙_}
 use borrow.Author.Needs.{needs}
 use Rattle.rule.proofs.wants.Statement.{statement}
 use Rattle.rule.proofs.wants.Tie as tie

@@ -1,6 +1,6 @@
 -- The loop at each width; digits of four bits leave nothing held. Assumes nothing.
-use Prim.Native.Nat.{ℕ, _*_, _%_, _^_, _<_}
-use mathlib.Core.Path.{_≡_, refl, sym, ap, _∙_}
+use Prim.Native.Nat.{_*_, _%_, _^_}
+use mathlib.Core.Path.{_≡_, sym}
 use native.Mathlib.Nat.{mod-one}
 use native.Mathlib.Omega.{arith}
 use Rattle.alphabet.specs.Alphabet.{bits}

@@ -1,6 +1,5 @@
 -- The table has a value's digit. Assumes nothing.
 use mathlib.Core.Path.{_∙_, ap}
-use native.Mathlib.Omega.{arith}
 use Rattle.table.specs.Table.{digitIn}
 use Rattle.alphabet.proofs.AlphabetLaws.{bits-high}
 use Rattle.regroup.proofs.RegroupLaws.{rest-lt}

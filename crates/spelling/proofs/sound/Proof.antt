@@ -1,5 +1,5 @@
 -- The test of a writer's numbers meets its definition. Assumes nothing.
-use Prim.Native.Nat.{_*_, _<_, _≤_}
+use Prim.Native.Nat.{_*_, _≤_}
 use native.Mathlib.Nat.{mod-lt}
 use native.Mathlib.Omega.{arith}
 use Rattle.alphabet.proofs.AlphabetLaws.{bits-low, bits-high}

@@ -1,5 +1,5 @@
 -- `step::on_digit`: after padding a refusal, else what the regrouping step gives. Assumes nothing.
-use mathlib.Core.Path.{sym, ap, _∙_}
+use mathlib.Core.Path.{sym, _∙_}
 use native.Mathlib.Omega.{arith}
 use borrow.Author.Tests.{lt-ltb}
 use Rattle.reading.specs.Reader.{onDigit, heldBits}

@@ -1,7 +1,6 @@
 -- `step::rare`: a dropped byte passes, and any other does what its symbol says. Assumes nothing.
-use mathlib.Core.Path.{sym, ap, _∙_}
+use mathlib.Core.Path.{sym, _∙_}
 use native.Mathlib.Omega.{arith}
-use Rattle.table.specs.Table.{symbolIn}
 use Rattle.reading.specs.Reader.{passes}
 use Rattle.reading.proofs.StepCases.{step-dropped}
 use Rattle.rule.specs.Meaning.{stateOf, number}

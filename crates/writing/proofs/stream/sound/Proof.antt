@@ -1,5 +1,4 @@
 -- The test of a state meets its definition. Assumes nothing.
-use Prim.Native.Nat.{ℕ}
 use mathlib.Core.Path.{sym, ap, _∙_}
 use lib.Dec.{eqb}
 use Rattle.writing.proofs.SoundLaws.{no-numbers, when-open, when-done, when-long}
