@@ -68,7 +68,7 @@ module _ (a n held : ℕ) (s : Sound a n held) (piece : List ℕ) {end : ℕ}
   part-within = within-most a (s .known) (n + length (take end piece)) .1 (rw (← longest-known a (s .known), part-length) (omega (arith, cut .1, n-within)))
 
   none-after : (left room : ℕ) → run a (n + end) left (drop end piece) room ≡ stop left (cond (ltb end (length piece)) W.Limit W.All)
-  unfolding run onByte
+  unfolding run onByte whereRoom
   none-after left room = go (ltb end (length piece)) refl
     where
       go : (t : Bool) → ltb end (length piece) ≡ t → run a (n + end) left (drop end piece) room ≡ stop left (cond t W.Limit W.All)

@@ -16,7 +16,7 @@ use Rattle.reading.specs.Limit.{limit}
 use Rattle.spelling.specs.declared.Why.{Why}
 use Rattle.spelling.specs.declared.Why.the-variants as W
 use Rattle.spelling.specs.Front.{front, heldOf}
-use Rattle.spelling.specs.Machine.{Run, stop, after, fullRuns, completes, keeps, onByte, run}
+use Rattle.spelling.specs.Machine.{Run, stop, after, fullRuns, completes, keeps, whereRoom, onByte, run}
 use Rattle.alphabet.proofs.AlphabetLaws.{bits-low}
 use Rattle.spelling.proofs.FrontLaws.{held-snoc, front-snoc, completes-length}
 
@@ -91,7 +91,7 @@ module _ (a : ℕ) (h : a < 6) where
         }
 
   pub run-means : (src piece : List ℕ) (room : ℕ) → writtenLength a (length src) ≤ limit → RunAs a src piece room (run a (length src) (heldOf (bits a) src) piece room)
-  unfolding run onByte
+  unfolding run onByte whereRoom
   run-means src [] room l = stopped src [] room W.All l refl
   run-means src (c ∷ cs) room l =
       go (ltb limit (writtenLength a (length src + 1))) refl (ltb room (fullRuns (bits a) (length src))) refl (run-means (src ++ c ∷ []) cs (room - fullRuns (bits a) (length src)))
@@ -116,7 +116,7 @@ module _ (a : ℕ) (h : a < 6) where
 
 -- from any numbers, a run takes no more than the piece has
 pub run-short : (a n held : ℕ) (piece : List ℕ) (room : ℕ) → run a n held piece room .took ≤ length piece
-unfolding run onByte
+unfolding run onByte whereRoom
 run-short a n held [] room = zero-le
 run-short a n held (c ∷ cs) room =
     go (ltb limit (writtenLength a (n + 1))) (ltb room (fullRuns (bits a) n)) (run-short a (n + 1) (keeps (bits a) n held c) cs (room - fullRuns (bits a) n))

@@ -41,11 +41,14 @@ stop held w = record { held = held; why = w; took = 0; wrote = [] }
 abbrev pub after : ℕ → List ℕ → Run → Run
 after n text r = record { held = r .held; why = r .why; took = n + r .took; wrote = text ++ r .wrote }
 
--- a byte after n bytes: the limit first, then the room, else it is taken and the run goes on
+-- a byte after n bytes: it is taken if all digits that it completes fit, and what comes next goes on
+unfoldable pub whereRoom : ℕ → ℕ → ℕ → ℕ → ℕ → Run → Run
+whereRoom a n held c room next =
+    cond (ltb room (fullRuns (bits a) n)) (stop held W.Room) (after 1 (map (digit a) (completes (bits a) n held c)) next)
+
+-- the limit is tested before the room
 unfoldable pub onByte : ℕ → ℕ → ℕ → ℕ → ℕ → Run → Run
-onByte a n held c room next =
-    cond (ltb limit (writtenLength a (n + 1))) (stop held W.Limit)
-    (cond (ltb room (fullRuns (bits a) n)) (stop held W.Room) (after 1 (map (digit a) (completes (bits a) n held c)) next))
+onByte a n held c room next = cond (ltb limit (writtenLength a (n + 1))) (stop held W.Limit) (whereRoom a n held c room next)
 
 -- the bytes of a piece, one after the other, into room for so many bytes of text
 unfoldable pub run : ℕ → ℕ → ℕ → List ℕ → ℕ → Run
@@ -53,11 +56,7 @@ run a n held [] room = stop held W.All
 run a n held (c ∷ cs) room =
     onByte a n held c room (run a (n + 1) (keeps (bits a) n held c) cs (room - fullRuns (bits a) n))
 
--- the same with no limit: as far as there is room
-unfoldable pub whereRoom : ℕ → ℕ → ℕ → ℕ → ℕ → Run → Run
-whereRoom a n held c room next =
-    cond (ltb room (fullRuns (bits a) n)) (stop held W.Room) (after 1 (map (digit a) (completes (bits a) n held c)) next)
-
+-- the same with no limit
 unfoldable pub spell : ℕ → ℕ → ℕ → List ℕ → ℕ → Run
 spell a n held [] room = stop held W.All
 spell a n held (c ∷ cs) room =

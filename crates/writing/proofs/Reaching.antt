@@ -24,7 +24,7 @@ use Rattle.writing.specs.declared.Status.{Status}
 use Rattle.writing.specs.declared.Status.the-variants as U
 use Rattle.writing.specs.declared.Writer.{Writer}
 use Rattle.spelling.specs.Front.{front, heldOf, ending}
-use Rattle.spelling.specs.Machine.{Run, run, onByte}
+use Rattle.spelling.specs.Machine.{Run, run, whereRoom, onByte}
 use Rattle.writing.specs.Stream.{fresh, startOf, fitsStatus, sound, Turn, closed, byWhy, close, ranOf, stepOf, finishOf}
 use Rattle.writing.specs.Moment.{Calls, start, step, finish, Reachable}
 use Rattle.spelling.specs.Sound.{Sound}
@@ -114,7 +114,7 @@ module _ (a n held : ℕ) (s : Sound a n held) where
 
   -- a byte past the limit
   pub reached-long : limit < writtenLength a (n + 1) → Reachable (record { alphabet = a; taken = n; held = held; status = U.TooLong })
-  unfolding stepOf ranOf run onByte byWhy
+  unfolding stepOf ranOf run onByte whereRoom byWhy
   reached-long l =
       let r : Reachable (opened a n held) = reached-open in
       let R : Run = run a n held (0 ∷ []) 0 in
