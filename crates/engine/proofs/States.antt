@@ -12,9 +12,7 @@ use Rattle.reading.specs.Reader.{State, wants, heldBits}
 use Rattle.reading.specs.Sound.{Sound}
 use Rattle.reading.specs.Piece.{runPiece}
 use Rattle.rule.specs.declared.Core.{Core}
-use Rattle.rule.specs.declared.Cause.{Cause}
-use Rattle.rule.specs.declared.Cause.the-variants as C
-use Rattle.rule.specs.Meaning.{stateOf, number, causeOf}
+use Rattle.rule.specs.Meaning.{stateOf}
 use Rattle.rule.specs.State.{small, ready}
 use Rattle.engine.specs.Ran.{ranAs, runAs, runBytes}
 
@@ -37,38 +35,3 @@ module _ (a opts : ℕ) (k : Core) where
     pub ready-bytes : runBytes a opts k piece room ≡ runPiece a opts piece (stateOf k) room .wrote
     unfolding runBytes
     ready-bytes = rw e
-
--- ---- causes
-
-pub long-number : number C.TooLong ≡ 2
-unfolding number
-long-number = refl
-
-pub foreign-number : number C.Foreign ≡ 4
-unfolding number
-foreign-number = refl
-
-pub pad-number : number C.PadPlace ≡ 5
-unfolding number
-pad-number = refl
-
-pub spare-number : number C.Spare ≡ 6
-unfolding number
-spare-number = refl
-
-pub after-number : number C.AfterPad ≡ 7
-unfolding number
-after-number = refl
-
-pub short-number : number C.Short ≡ 8
-unfolding number
-short-number = refl
-
-pub cause-number : (c : Cause) → causeOf (number c) ≡ c
-unfolding number causeOf
-cause-number C.TooLong = refl
-cause-number C.Foreign = refl
-cause-number C.PadPlace = refl
-cause-number C.Spare = refl
-cause-number C.AfterPad = refl
-cause-number C.Short = refl

@@ -11,7 +11,7 @@ use Rattle.reading.proofs.Refusals.{Blame, foreign, misplaced, spare, late, End
 use Rattle.rule.specs.declared.Cause.{Cause}
 use Rattle.rule.specs.declared.Cause.the-variants as C
 use Rattle.rule.specs.Meaning.{number, causeOf}
-use Rattle.engine.proofs.States.{long-number, foreign-number, pad-number, spare-number, after-number, short-number, cause-number}
+use Rattle.rule.proofs.Causes.{long-number, foreign-number, pad-number, spare-number, after-number, short-number, cause-back}
 use Rattle.states.specs.declared.Status.{Status}
 use Rattle.states.specs.declared.Status.the-variants as U
 use Rattle.stream.specs.declared.reader.Reader.{Reader}
@@ -43,12 +43,12 @@ some-number C.Short = rw short-number
 -- ---- there and back
 
 pub number-back : {k : ℕ} → IsCause k → number (causeOf k) ≡ k
-number-back x = subst (λ (j : ℕ). number (causeOf j) ≡ j) (x .is) (ap number (cause-number (x .cause)))
+number-back x = subst (λ (j : ℕ). number (causeOf j) ≡ j) (x .is) (ap number (cause-back (x .cause)))
 
 pub status-back : (u : Status) → statusAs (statusOf u) ≡ u
 unfolding statusAs statusOf
 status-back U.Open = refl
-status-back (U.Shut c) = ap U.Shut (cause-number c)
+status-back (U.Shut c) = ap U.Shut (cause-back c)
 status-back U.Done = refl
 
 pub reader-back : (r : Reader) → readerOf (streamOf r) ≡ r
@@ -58,17 +58,17 @@ reader-back r = rw (status-back (r .status))
 
 pub refused-outcome : (c : Cause) (i n : ℕ) → outcomeOf (number c) i n ≡ O.Refused (kindBy c (place i)) (count n)
 unfolding outcomeOf kindOf
-refused-outcome C.TooLong i n = rw (cause-number C.TooLong, long-number)
-refused-outcome C.Foreign i n = rw (cause-number C.Foreign, foreign-number)
-refused-outcome C.PadPlace i n = rw (cause-number C.PadPlace, pad-number)
-refused-outcome C.Spare i n = rw (cause-number C.Spare, spare-number)
-refused-outcome C.AfterPad i n = rw (cause-number C.AfterPad, after-number)
-refused-outcome C.Short i n = rw (cause-number C.Short, short-number)
+refused-outcome C.TooLong i n = rw (cause-back C.TooLong, long-number)
+refused-outcome C.Foreign i n = rw (cause-back C.Foreign, foreign-number)
+refused-outcome C.PadPlace i n = rw (cause-back C.PadPlace, pad-number)
+refused-outcome C.Spare i n = rw (cause-back C.Spare, spare-number)
+refused-outcome C.AfterPad i n = rw (cause-back C.AfterPad, after-number)
+refused-outcome C.Short i n = rw (cause-back C.Short, short-number)
 
 pub cause-outcome : {k : ℕ} → IsCause k → (i n : ℕ) → outcomeOf k i n ≡ O.Refused (kindBy (causeOf k) (place i)) (count n)
 cause-outcome x i n =
     subst (λ (k : ℕ). outcomeOf k i n ≡ O.Refused (kindBy (causeOf k) (place i)) (count n)) (x .is)
-    (rw (cause-number (x .cause)) (refused-outcome (x .cause) i n))
+    (rw (cause-back (x .cause)) (refused-outcome (x .cause) i n))
 
 -- the end is accepted, or is refused with a cause
 pub ended-cause : {a opts : ℕ} {s : State} {k : ℕ} → Ended a opts s k → (k ≡ 0) ⊎ IsCause k

@@ -26,7 +26,8 @@ use Rattle.reading.specs.Buffer.{filled}
 use Rattle.rule.specs.State.{ready}
 use Rattle.engine.specs.Ran.{whyAs, ranAs, runAs, runBytes}
 use Rattle.engine.proofs.FromFresh.{all-as, refused-as, full-as}
-use Rattle.engine.proofs.States.{cause-number, ready-runs, ready-bytes}
+use Rattle.rule.proofs.Causes.{cause-back}
+use Rattle.engine.proofs.States.{ready-runs, ready-bytes}
 use Rattle.states.specs.declared.Status.the-variants as U
 use Rattle.stream.specs.declared.reader.Reader.{Reader}
 use Rattle.stream.specs.declared.reader.Stepped.{Stepped}
@@ -156,7 +157,7 @@ module _ (r : Reader) (e : given (streamOf r) ≡ true) where
     end-returned : (end : End) → asEnd (r .alphabet) (r .options) (r .core) end ≡ returned (closes (streamOf r) (endOf end))
     unfolding asEnd closes endStatus statusAs outcomeOf
     end-returned E.Whole = refl
-    end-returned (E.Refused c) = rw (sym (refused-outcome c (r .core .taken) 0), some-number c, cause-number c)
+    end-returned (E.Refused c) = rw (sym (refused-outcome c (r .core .taken) 0), some-number c, cause-back c)
 
     pub open-finish : (end : End) {x : Stepped} → endOf end ≡ ending (r .alphabet) (r .options) (stateOf (r .core))
         → x ≡ asEnd (r .alphabet) (r .options) (r .core) end → x ≡ finished r

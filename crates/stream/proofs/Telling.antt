@@ -17,7 +17,7 @@ use Rattle.rule.specs.declared.Cause.{Cause}
 use Rattle.rule.specs.declared.Cause.the-variants as C
 use Rattle.rule.specs.Meaning.{stateOf, number}
 use Rattle.reading.specs.Buffer.{filled}
-use Rattle.engine.proofs.States.{long-number, foreign-number, pad-number, spare-number, after-number, short-number, cause-number}
+use Rattle.rule.proofs.Causes.{long-number, foreign-number, pad-number, spare-number, after-number, short-number, cause-back}
 use Rattle.states.specs.declared.Status.{Status}
 use Rattle.states.specs.declared.Status.the-variants as U
 use Rattle.stream.specs.declared.reader.Reader.{Reader}
@@ -128,7 +128,7 @@ unfolding closes endStatus statusOf statusAs
 closed-regular s k (inl e) = subst (λ (j : ℕ). Regular (closes s j)) (sym e) (record { says = accepted; keeps = refl })
 closed-regular s k (inr x) =
     subst (λ (j : ℕ). Regular (closes s j)) (x .is)
-    (record { says = refused (record { cause = x .cause; is = refl }); keeps = rw (some-number (x .cause)) (ap S.shut (ap number (cause-number (x .cause)))) })
+    (record { says = refused (record { cause = x .cause; is = refl }); keeps = rw (some-number (x .cause)) (ap S.shut (ap number (cause-back (x .cause)))) })
 
 module _ (r : Reader) where
   -- 9, 10 and an earlier refusal are regular, and what else a call gives is the rest

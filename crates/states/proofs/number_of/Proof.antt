@@ -1,6 +1,6 @@
 -- `number_of`: by the cause. Assumes nothing.
 use mathlib.Core.Path.{sym}
-use Rattle.engine.proofs.States.{long-number, foreign-number, pad-number, spare-number, after-number, short-number}
+use Rattle.rule.proofs.Causes.{long-number, foreign-number, pad-number, spare-number, after-number, short-number}
 use borrow.Author.Needs.{needs}
 use Rattle.states.proofs.number_of.Statement.{statement}
 use Rattle.states.proofs.number_of.Tie as tie

@@ -1,5 +1,5 @@
 -- `refusable`: by the cause. Assumes nothing.
-use Rattle.engine.proofs.States.{long-number, foreign-number, pad-number, spare-number, after-number, short-number}
+use Rattle.rule.proofs.Causes.{long-number, foreign-number, pad-number, spare-number, after-number, short-number}
 use Rattle.streaming.specs.Given.{refusable}
 use borrow.Author.Needs.{needs}
 use Rattle.states.proofs.refusable.Statement.{statement}
