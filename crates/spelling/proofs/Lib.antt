@@ -8,3 +8,4 @@ pub mod CutRuns
 pub mod SoundNumbers
 pub mod MeasureLaws
 pub mod Lent
+pub mod LongestSources
