@@ -3,7 +3,7 @@ pub mod Bytes
 pub mod Loops
 pub mod Plain
 pub mod Reaching
-pub mod Parts
+pub mod InParts
 pub mod AtLimit
 pub mod FromFresh
 pub mod States

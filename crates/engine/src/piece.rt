@@ -1,7 +1,9 @@
-// The runs over a piece: into a second buffer, in place, and counting alone. A run into a buffer goes by stretches, digits as they stand and
-// the byte after them; the other two go by parts of the text, each of which is a run into a buffer.
+// The runs over a piece: into a second buffer, by stretches, digits as they stand and the byte after them; in place and counting alone, by parts
+// (parts.rt). The limit is applied here, once.
 use crate::digits::Passed;
 use crate::digits::pass;
+use crate::parts::settle;
+use crate::parts::tally;
 use crate::step::Took;
 use crate::step::rare;
 pub use reading::limit;
@@ -13,7 +15,7 @@ use rule::state::ready;
 ghost use Prim.Native.Nat.{_+_, _<_, _≤_, _^_};
 ghost use mathlib.Core.Path.{_≡_};
 ghost use mathlib.Core.Bool.{true};
-ghost use lib.ListN.{length, take};
+ghost use lib.ListN.{length};
 ghost use Rattle.table.specs.Table.{entries};
 ghost use Rattle.reading.specs.Options as Options;
 ghost use Rattle.reading.specs.Limit as Limit;
@@ -22,7 +24,7 @@ ghost use Rattle.rule.specs.Meaning.{stateOf};
 ghost use Rattle.engine.specs.Ran as Spec;
 ghost use Rattle.reading.specs.Buffer.{filled};
 ghost use Rattle.engine.specs.Ran.{Ready, ranAs};
-ghost use Rattle.engine.specs.Loop.{Part, Stretch, putAs, putIn};
+ghost use Rattle.engine.specs.Loop.{Stretch, putAs, putIn};
 
 // Why a run over a piece stopped. Unfit: the choice or the state is none that reading starts from, and nothing was done.
 pub enum Why {
@@ -41,7 +43,7 @@ pub struct Ran {
 }
 
 // A run, and one more after it: the counts are added.
-fn then(first: Ran, next: Ran) -> Ran
+pub(crate) fn then(first: Ran, next: Ran) -> Ran
     requires { ⌜ first .took + next .took < 2 ^ 64 ⌝ }
     requires { ⌜ first .wrote + next .wrote < 2 ^ 64 ⌝ }
     ensures { λ r. ⌜ r ≡ Spec.thenAs first next ⌝ }
@@ -57,7 +59,7 @@ fn then(first: Ran, next: Ran) -> Ran
 }
 
 // Whether a run that came so far has bytes left to take.
-fn goes_on(r: Ran, len: usize) -> bool
+pub(crate) fn goes_on(r: Ran, len: usize) -> bool
     ensures { λ x. ⌜ x ≡ Spec.goesOn (r .why) (r .took) len ⌝ }
 {
     let took = r.took;
@@ -143,7 +145,7 @@ fn stretch(
 }
 
 // A piece into a buffer, in stretches.
-fn fill(
+pub(crate) fn fill(
     t: &[u8; 1536],
     alphabet: usize,
     options: usize,
@@ -167,90 +169,6 @@ fn fill(
         let i = s.took;
         let n = s.wrote;
         let r = stretch(t, alphabet, options, s.core, &piece[i..], &mut out[n..]);
-        s = then(s, r);
-    }
-    s
-}
-
-// The end of the part that begins at i and has at most 256 bytes.
-fn part_end(i: usize, len: usize) -> usize
-    requires { ⌜ i < len ⌝ }
-    ensures { λ e. ⌜ Part i e len ⌝ }
-{
-    if len - i <= 256 {
-        return len;
-    }
-    i + 256
-}
-
-// A part, counted alone: what it gives is put aside.
-fn counted(t: &[u8; 1536], alphabet: usize, options: usize, start: Core, part: &[u8]) -> Ran
-    requires { ⌜ now t ≡ entries ⌝ }
-    requires { ⌜ Options.allowed alphabet options ≡ true ⌝ }
-    requires { ⌜ Ready alphabet start (length (now part)) ⌝ }
-    ensures { λ r. ⌜ r ≡ ranAs (Piece.run alphabet options (now (part .entry)) (stateOf start) 256) ⌝ }
-{
-    let mut aside: [u8; 256] = [0; 256];
-    fill(t, alphabet, options, start, part, &mut aside)
-}
-
-// Counting alone: room never lacks, since a byte needs more than one byte of text.
-fn tally(t: &[u8; 1536], alphabet: usize, options: usize, start: Core, text: &[u8]) -> Ran
-    requires { ⌜ now t ≡ entries ⌝ }
-    requires { ⌜ Options.allowed alphabet options ≡ true ⌝ }
-    requires { ⌜ Ready alphabet start (length (now text)) ⌝ }
-    ensures { λ r. ⌜ r ≡ ranAs (Piece.run alphabet options (now (text .entry)) (stateOf start) (length (now (text .entry)))) ⌝ }
-{
-    let mut s = Ran {
-        core: start,
-        why: Why::All,
-        took: 0,
-        wrote: 0,
-    };
-    while goes_on(s, text.len()) {
-        let i = s.took;
-        let e = part_end(i, text.len());
-        let r = counted(t, alphabet, options, s.core, &text[i..e]);
-        s = then(s, r);
-    }
-    s
-}
-
-// The bytes of a part, put aside.
-fn copied(part: &[u8]) -> [u8; 256]
-    requires { ⌜ length (now part) ≤ 256 ⌝ }
-    ensures { λ r. ⌜ take (length (now (part .entry))) r ≡ now (part .entry) ⌝ }
-{
-    let mut aside: [u8; 256] = [0; 256];
-    let mut i: usize = 0;
-    while i < part.len() {
-        aside[i] = part[i];
-        i += 1;
-    }
-    aside
-}
-
-// In place: a part is put aside, and what it gives is stored over bytes that were read.
-fn settle(t: &[u8; 1536], alphabet: usize, options: usize, start: Core, buf: &mut [u8]) -> Ran
-    requires { ⌜ now t ≡ entries ⌝ }
-    requires { ⌜ Options.allowed alphabet options ≡ true ⌝ }
-    requires { ⌜ Ready alphabet start (length (now buf)) ⌝ }
-    ensures { λ r. ⌜ r ≡ ranAs (Piece.run alphabet options (now (buf .entry)) (stateOf start) (length (now (buf .entry)))) ⌝ }
-    ensures { λ r. ⌜ now (buf .exit) ≡ filled (Piece.run alphabet options (now (buf .entry)) (stateOf start) (length (now (buf .entry))) .wrote) (now (buf .entry)) ⌝ }
-{
-    let mut s = Ran {
-        core: start,
-        why: Why::All,
-        took: 0,
-        wrote: 0,
-    };
-    while goes_on(s, buf.len()) {
-        let i = s.took;
-        let n = s.wrote;
-        let e = part_end(i, buf.len());
-        let m = e - i;
-        let aside = copied(&buf[i..e]);
-        let r = fill(t, alphabet, options, s.core, &aside[..m], &mut buf[n..]); // n is never past i
         s = then(s, r);
     }
     s

@@ -1,5 +1,4 @@
 -- 01, "Answers": "The longest source is 12,582,912 bytes in base64, 10,485,760 in base32, 8,388,608 in hex." Computed. Assumes nothing.
-use Prim.Native.Nat.{ℕ}
 use mathlib.Core.Path.{_≡_, refl}
 use Rattle.alphabet.specs.Alphabet.{bits}
 use Rattle.reading.specs.Limit.{limit}

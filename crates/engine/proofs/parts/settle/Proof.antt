@@ -1,4 +1,4 @@
--- `piece::settle`: a run in place, made in parts. Assumes nothing.
+-- `parts::settle`: a run in place, made in parts. Assumes nothing.
 use Prim.Native.Nat.{ℕ, _-_, _<_, _≤_}
 use mathlib.Core.Path.{_≡_, refl, sym, ap, _∙_, subst}
 use native.Mathlib.Omega.{arith}
@@ -11,10 +11,10 @@ use lib.ListN.{length, take, drop, length-take}
 use Rattle.engine.specs.Ran.{goesOn, thenAs, Ready}
 use Rattle.engine.specs.Loop.{Part}
 use Rattle.engine.proofs.Reaching.{goes-on, left, left-less}
-use Rattle.engine.proofs.Parts.{Settled, settled-begins, counted-sums, part-ready, counted-some, settled-then, settled-done}
-use Rattle.engine.proofs.Parts.{settled-size, settled-ends, settled-reads, settled-part, settled-whole, settled-fits}
-use Rattle.engine.proofs.piece.settle.Statement.{statement}
-use Rattle.engine.proofs.piece.settle.Tie as tie
+use Rattle.engine.proofs.InParts.{Settled, settled-begins, counted-sums, part-ready, counted-some, settled-then, settled-done}
+use Rattle.engine.proofs.InParts.{settled-size, settled-ends, settled-reads, settled-part, settled-whole, settled-fits}
+use Rattle.engine.proofs.parts.settle.Statement.{statement}
+use Rattle.engine.proofs.parts.settle.Tie as tie
 
 abbrev Inv-loop : tie.InvT-loop
 Inv-loop t alphabet options buf₀ s₀ buf s = Settled alphabet options buf₀ (s₀ .core) buf s

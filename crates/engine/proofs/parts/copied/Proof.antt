@@ -1,4 +1,4 @@
--- `piece::copied`: the bytes copied stand at the front. Assumes nothing.
+-- `parts::copied`: the bytes copied stand at the front. Assumes nothing.
 use Prim.Native.Nat.{ℕ, _-_, _≤_}
 use mathlib.Core.Path.{_≡_, refl, sym, ap, _∙_}
 use native.Mathlib.Omega.{arith}
@@ -6,8 +6,8 @@ use native.Mathlib.Numerals.{add-one}
 use lib.ListN.{length, take, length-set}
 use lib.Seq.{take-suc, take-suc-set, take-length}
 use borrow.Author.Needs.{needs}
-use Rattle.engine.proofs.piece.copied.Statement.{statement}
-use Rattle.engine.proofs.piece.copied.Tie as tie
+use Rattle.engine.proofs.parts.copied.Statement.{statement}
+use Rattle.engine.proofs.parts.copied.Tie as tie
 
 abbrev Inv-loop : tie.InvT-loop
 Inv-loop part aside₀ i₀ aside i = (length aside ≡ 256) × ((i ≤ length part) × (take i aside ≡ take i part))

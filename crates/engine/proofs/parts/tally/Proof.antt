@@ -1,4 +1,4 @@
--- `piece::tally`: a run that counts, made in parts. Assumes nothing.
+-- `parts::tally`: a run that counts, made in parts. Assumes nothing.
 use Prim.Native.Nat.{_-_, _<_, _≤_}
 use mathlib.Core.Path.{_≡_, refl, sym, _∙_, subst}
 use native.Mathlib.Omega.{arith}
@@ -9,10 +9,10 @@ use Rattle.engine.specs.declared.piece.Why.the-variants as W
 use lib.ListN.{length, take, drop}
 use Rattle.engine.specs.Ran.{thenAs}
 use Rattle.engine.proofs.Reaching.{goes-on, left, left-less}
-use Rattle.engine.proofs.Parts.{Counting, Counted, counted-begins, counted-sums, counted-done, part-size, part-ready, counted-then}
-use Rattle.engine.proofs.Parts.{counted-some}
-use Rattle.engine.proofs.piece.tally.Statement.{statement}
-use Rattle.engine.proofs.piece.tally.Tie as tie
+use Rattle.engine.proofs.InParts.{Counting, Counted, counted-begins, counted-sums, counted-done, part-size, part-ready, counted-then}
+use Rattle.engine.proofs.InParts.{counted-some}
+use Rattle.engine.proofs.parts.tally.Statement.{statement}
+use Rattle.engine.proofs.parts.tally.Tie as tie
 
 abbrev Inv-loop : tie.InvT-loop
 Inv-loop t alphabet options text s₀ s = Counted alphabet options text (s₀ .core) s
