@@ -5,29 +5,12 @@ use answer::Outcome;
 use answer::Place;
 use engine::piece::Ran;
 use engine::piece::Why;
-use rule::Cause;
 use rule::End;
+use rule::kind_by;
 ghost use mathlib.Core.Path.{_≡_};
-ghost use Rattle.answer.specs.Told as Told;
 ghost use Rattle.answer.specs.Told.{told};
-ghost use Rattle.rule.specs.Meaning as Engine;
 ghost use Rattle.block.specs.Answered.{answered};
 ghost use Rattle.block.specs.Calls.{JudgeAs};
-
-// The refusal of a cause, at a place.
-fn kind(cause: Cause, place: Place) -> Kind
-    ensures { λ r. ⌜ Told.number r ≡ Engine.number cause ⌝ }
-    ensures { λ r. ⌜ Told.position r ≡ place .0 ⌝ }
-{
-    match cause {
-        Cause::TooLong => Kind::TooLong(place),
-        Cause::Foreign => Kind::Foreign(place),
-        Cause::PadPlace => Kind::PadPlace(place),
-        Cause::Spare => Kind::Spare(place),
-        Cause::AfterPad => Kind::AfterPad(place),
-        Cause::Short => Kind::Short(place),
-    }
-}
 
 // What a run over a whole text answers.
 pub fn outcome(alphabet: usize, options: usize, ran: Ran) -> Outcome
@@ -42,9 +25,9 @@ pub fn outcome(alphabet: usize, options: usize, ran: Ran) -> Outcome
     match why {
         Why::All => match rule::ending(alphabet, options, core) {
             End::Whole => Outcome::Accepted(place, count),
-            End::Refused(cause) => Outcome::Refused(kind(cause, place), count),
+            End::Refused(cause) => Outcome::Refused(kind_by(cause, place), count),
         },
-        Why::Refused(cause) => Outcome::Refused(kind(cause, place), count),
+        Why::Refused(cause) => Outcome::Refused(kind_by(cause, place), count),
         Why::Full => Outcome::Refused(Kind::NoRoom(Place(0)), count),
         Why::Unfit => Outcome::Refused(Kind::Choice, Count(0)),
     }

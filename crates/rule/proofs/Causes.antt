@@ -1,8 +1,10 @@
 -- The number of each refusal, and that it settles the refusal. Assumes nothing.
 use mathlib.Core.Path.{_≡_, refl}
+use Rattle.answer.specs.declared.Place.{Place}
+use Rattle.answer.specs.Told as Told
 use Rattle.rule.specs.declared.Cause.{Cause}
 use Rattle.rule.specs.declared.Cause.the-variants as C
-use Rattle.rule.specs.Meaning.{causeOf, number}
+use Rattle.rule.specs.Meaning.{causeOf, number, kindBy}
 
 pub cause-back : (c : Cause) → causeOf (number c) ≡ c
 unfolding causeOf number
@@ -36,3 +38,22 @@ after-number = refl
 pub short-number : number C.Short ≡ 8
 unfolding number
 short-number = refl
+
+-- a refusal as an answer has its number and its place
+pub kind-number : (c : Cause) (p : Place) → Told.number (kindBy c p) ≡ number c
+unfolding Told.number kindBy number
+kind-number C.TooLong p = refl
+kind-number C.Foreign p = refl
+kind-number C.PadPlace p = refl
+kind-number C.Spare p = refl
+kind-number C.AfterPad p = refl
+kind-number C.Short p = refl
+
+pub kind-position : (c : Cause) (p : Place) → Told.position (kindBy c p) ≡ p .0
+unfolding Told.position kindBy
+kind-position C.TooLong p = refl
+kind-position C.Foreign p = refl
+kind-position C.PadPlace p = refl
+kind-position C.Spare p = refl
+kind-position C.AfterPad p = refl
+kind-position C.Short p = refl

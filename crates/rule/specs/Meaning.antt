@@ -4,6 +4,9 @@ use mathlib.Core.Bool.{cond, not, _&&_}
 use mathlib.Core.List.{[], _∷_}
 use lib.Dec.{eqb}
 use lib.ListN.{getD}
+use Rattle.answer.specs.declared.Place.{Place}
+use Rattle.answer.specs.declared.Kind.{Kind}
+use Rattle.answer.specs.declared.Kind.the-variants as K
 use Rattle.reading.specs.Options.{anySpare}
 use Rattle.reading.specs.Reader.{State}
 use Rattle.rule.specs.declared.Core.{Core}
@@ -30,6 +33,15 @@ number C.Short = 8
 -- the refusal of 01's number
 unfoldable pub causeOf : ℕ → Cause
 causeOf k = getD (C.TooLong ∷ C.TooLong ∷ C.TooLong ∷ C.TooLong ∷ C.Foreign ∷ C.PadPlace ∷ C.Spare ∷ C.AfterPad ∷ C.Short ∷ []) k C.TooLong
+
+-- a refused byte or end, at its place
+unfoldable pub kindBy : Cause → Place → Kind
+kindBy C.TooLong = K.TooLong
+kindBy C.Foreign = K.Foreign
+kindBy C.PadPlace = K.PadPlace
+kindBy C.Spare = K.Spare
+kindBy C.AfterPad = K.AfterPad
+kindBy C.Short = K.Short
 
 abbrev pub endOf : End → ℕ
 endOf E.Whole = 0

@@ -3,13 +3,15 @@
 pub mod choice; // choice.rt: which alphabets and options are answered 1
 pub mod state; // state.rt: the state before any text, and the test of a state
 
+use answer::Kind;
+use answer::Place;
 use choice::chosen;
 ghost use mathlib.Core.Path.{_≡_};
 ghost use Prim.Native.Nat.{_%_};
 ghost use Rattle.alphabet.specs.Alphabet as Alphabet;
 ghost use Rattle.reading.specs.Cleaning as Cleaning;
 ghost use Rattle.reading.specs.Reader as Reader;
-ghost use Rattle.rule.specs.Meaning.{stateOf, endOf, unpaddedEnd};
+ghost use Rattle.rule.specs.Meaning.{stateOf, endOf, unpaddedEnd, kindBy};
 
 // Digits and pads so far, the bits that no byte has yet, and the bytes of text taken.
 pub struct Core {
@@ -33,6 +35,20 @@ pub enum Cause {
 pub enum End {
     Whole,
     Refused(Cause),
+}
+
+// A refused byte or end, at its place.
+pub fn kind_by(cause: Cause, place: Place) -> Kind
+    ensures { λ r. ⌜ r ≡ kindBy cause place ⌝ }
+{
+    match cause {
+        Cause::TooLong => Kind::TooLong(place),
+        Cause::Foreign => Kind::Foreign(place),
+        Cause::PadPlace => Kind::PadPlace(place),
+        Cause::Spare => Kind::Spare(place),
+        Cause::AfterPad => Kind::AfterPad(place),
+        Cause::Short => Kind::Short(place),
+    }
 }
 
 // Whether LINES or BLANK drops the byte.

@@ -10,13 +10,13 @@ use Rattle.reading.specs.Reader.{State}
 use Rattle.reading.proofs.Refusals.{Blame, foreign, misplaced, spare, late, Ended, whole, short}
 use Rattle.rule.specs.declared.Cause.{Cause}
 use Rattle.rule.specs.declared.Cause.the-variants as C
-use Rattle.rule.specs.Meaning.{number, causeOf}
+use Rattle.rule.specs.Meaning.{kindBy, number, causeOf}
 use Rattle.rule.proofs.Causes.{long-number, foreign-number, pad-number, spare-number, after-number, short-number, cause-back}
 use Rattle.states.specs.declared.Status.{Status}
 use Rattle.states.specs.declared.Status.the-variants as U
 use Rattle.stream.specs.declared.reader.Reader.{Reader}
 use Rattle.states.specs.Status.{statusOf}
-use Rattle.stream.specs.Stepped.{statusAs, streamOf, readerOf, place, count, kindBy, kindOf, outcomeOf}
+use Rattle.stream.specs.Stepped.{statusAs, streamOf, readerOf, place, count, kindOf, outcomeOf}
 
 -- the number of some cause
 pub record IsCause (k : ℕ) : Type 0 where

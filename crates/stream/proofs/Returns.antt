@@ -21,7 +21,7 @@ use Rattle.rule.specs.declared.Cause.{Cause}
 use Rattle.rule.specs.declared.End.{End}
 use Rattle.rule.specs.declared.End.the-variants as E
 use Rattle.engine.specs.declared.piece.Ran.{Ran}
-use Rattle.rule.specs.Meaning.{stateOf, number, endOf, coreOf}
+use Rattle.rule.specs.Meaning.{kindBy, stateOf, number, endOf, coreOf}
 use Rattle.reading.specs.Buffer.{filled}
 use Rattle.rule.specs.State.{ready}
 use Rattle.engine.specs.Ran.{whyAs, ranAs, runAs, runBytes}
@@ -37,7 +37,7 @@ use Rattle.streaming.specs.Given.{given, readable}
 use Rattle.streaming.specs.Calls.{Called, unmoved, whyStatus, whyAnswer, ran, stepOf, endStatus, closes}
 use Rattle.streaming.specs.Promises.{Sticks}
 use Rattle.states.specs.Status.{statusOf}
-use Rattle.stream.specs.Stepped.{statusAs, streamOf, place, count, kindBy, kindOf, outcomeOf, returned, stepped, written, finished, startAs, begun}
+use Rattle.stream.specs.Stepped.{statusAs, streamOf, place, count, kindOf, outcomeOf, returned, stepped, written, finished, startAs, begun}
 use Rattle.stream.specs.Packed.{reader, packed, untold, byWhy, asStep, asEnd}
 use Rattle.streaming.proofs.Order.{nine-sticks, ten-sticks, refusal-sticks, live-step, live-finish}
 use Rattle.streaming.proofs.GivenLaws.{given-says}

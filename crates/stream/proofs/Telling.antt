@@ -15,7 +15,7 @@ use Rattle.reading.proofs.PieceLimit.{piece-feeds}
 use Rattle.reading.proofs.Refusals.{ended}
 use Rattle.rule.specs.declared.Cause.{Cause}
 use Rattle.rule.specs.declared.Cause.the-variants as C
-use Rattle.rule.specs.Meaning.{stateOf, number}
+use Rattle.rule.specs.Meaning.{kindBy, stateOf, number}
 use Rattle.reading.specs.Buffer.{filled}
 use Rattle.rule.proofs.Causes.{long-number, foreign-number, pad-number, spare-number, after-number, short-number, cause-back}
 use Rattle.states.specs.declared.Status.{Status}
@@ -27,7 +27,7 @@ use Rattle.streaming.specs.Given.{given}
 use Rattle.streaming.specs.Calls.{Called, unmoved, whyStatus, whyAnswer, ran, stepOf, endStatus, closes, finishOf}
 use Rattle.streaming.specs.Promises.{Sticks}
 use Rattle.states.specs.Status.{statusOf}
-use Rattle.stream.specs.Stepped.{statusAs, streamOf, place, count, kindBy, kindOf, outcomeOf, returned, stepped, written, finished}
+use Rattle.stream.specs.Stepped.{statusAs, streamOf, place, count, kindOf, outcomeOf, returned, stepped, written, finished}
 use Rattle.stream.specs.Made.{Tells}
 use Rattle.streaming.proofs.Order.{nine-sticks, ten-sticks, refusal-sticks, live-step, live-finish}
 use Rattle.streaming.proofs.GivenLaws.{given-says}

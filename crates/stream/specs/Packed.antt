@@ -12,9 +12,10 @@ use Rattle.engine.specs.declared.piece.Why.the-variants as W
 use Rattle.engine.specs.declared.piece.Ran.{Ran}
 use Rattle.states.specs.declared.Status.{Status}
 use Rattle.states.specs.declared.Status.the-variants as U
+use Rattle.rule.specs.Meaning.{kindBy}
 use Rattle.stream.specs.declared.reader.Reader.{Reader}
 use Rattle.stream.specs.declared.reader.Stepped.{Stepped}
-use Rattle.stream.specs.Stepped.{place, count, kindBy}
+use Rattle.stream.specs.Stepped.{place, count}
 
 abbrev pub reader : ℕ → ℕ → Core → Status → Reader
 reader a opts k u = record { alphabet = a; options = opts; core = k; status = u }

@@ -11,9 +11,7 @@ use Rattle.answer.specs.declared.Kind.{Kind}
 use Rattle.answer.specs.declared.Kind.the-variants as K
 use Rattle.answer.specs.declared.Outcome.{Outcome}
 use Rattle.answer.specs.declared.Outcome.the-variants as O
-use Rattle.rule.specs.declared.Cause.{Cause}
-use Rattle.rule.specs.declared.Cause.the-variants as C
-use Rattle.rule.specs.Meaning.{stateOf, coreOf, causeOf}
+use Rattle.rule.specs.Meaning.{kindBy, stateOf, coreOf, causeOf}
 use Rattle.reading.specs.Buffer.{filled}
 use Rattle.states.specs.Status.{statusOf}
 use Rattle.states.specs.declared.Status.{Status}
@@ -47,15 +45,6 @@ place i = record { 0 = i }
 
 abbrev pub count : ℕ → Count
 count n = record { 0 = n }
-
--- a refused byte or end, at its place
-unfoldable pub kindBy : Cause → Place → Kind
-kindBy C.TooLong = K.TooLong
-kindBy C.Foreign = K.Foreign
-kindBy C.PadPlace = K.PadPlace
-kindBy C.Spare = K.Spare
-kindBy C.AfterPad = K.AfterPad
-kindBy C.Short = K.Short
 
 -- the refusal of 01's number: 3, 9, 10, and the others by their cause
 unfoldable pub kindOf : ℕ → ℕ → Kind

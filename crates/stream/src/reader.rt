@@ -5,13 +5,13 @@ use answer::Outcome;
 use answer::Place;
 use engine::piece::Ran;
 use engine::piece::Why;
-use rule::Cause;
 use rule::Core;
 use rule::End;
+use rule::kind_by;
 use states::Status;
 use states::given;
 ghost use mathlib.Core.Path.{_≡_};
-ghost use Rattle.stream.specs.Stepped.{begun, stepped, written, finished, kindBy};
+ghost use Rattle.stream.specs.Stepped.{begun, stepped, written, finished};
 ghost use Rattle.stream.specs.Packed.{untold, asStep, asEnd};
 
 pub struct Reader {
@@ -35,20 +35,6 @@ pub struct Told {
 pub struct Stepped {
     pub state: Reader,
     pub told: Told,
-}
-
-// A refused byte or end, at its place.
-fn kind_by(cause: Cause, place: Place) -> Kind
-    ensures { λ r. ⌜ r ≡ kindBy cause place ⌝ }
-{
-    match cause {
-        Cause::TooLong => Kind::TooLong(place),
-        Cause::Foreign => Kind::Foreign(place),
-        Cause::PadPlace => Kind::PadPlace(place),
-        Cause::Spare => Kind::Spare(place),
-        Cause::AfterPad => Kind::AfterPad(place),
-        Cause::Short => Kind::Short(place),
-    }
 }
 
 // A refusal that takes and writes nothing and returns the state unchanged.

@@ -1,5 +1,6 @@
 -- `judging::outcome`: by why the run stopped, and at the end by what the end gives. Assumes nothing.
 use Rattle.answer.specs.Told.{number, position, told}
+use Rattle.rule.proofs.Causes.{kind-number, kind-position}
 use Rattle.block.specs.Answered.{answeredBy}
 use borrow.Author.Needs.{needs}
 use Rattle.block.proofs.judging.outcome.Statement.{statement}
@@ -17,14 +18,14 @@ enum-told-2 c = search needs
 enum-known-cause : tie.Need-enum-known-cause
 enum-known-cause c = search needs
 
-kind-requires : tie.Need-kind-requires
-kind-requires c κs = search needs
+kind-by-requires : tie.Need-kind-by-requires
+kind-by-requires c κs = search needs
 
 enum-known-why : tie.Need-enum-known-why
 enum-known-why c = search needs
 
-kind-requires-2 : tie.Need-kind-requires-2
-kind-requires-2 c κs = search needs
+kind-by-requires-2 : tie.Need-kind-by-requires-2
+kind-by-requires-2 c κs = search needs
 
 enum-told-3 : tie.Need-enum-told-3
 enum-told-3 c = search needs
@@ -40,11 +41,11 @@ returns-2 : tie.Need-returns-2
 unfolding told number position answeredBy
 returns-2 c =
     let e = c .before .before .before .before in
-    rw (e .before .enum-told .given .1, ← e .ending .ensures, c .before .before .cause .given .1, ← c .kind .ensures .0, c .kind .ensures .1)
+    rw (e .before .enum-told .given .1, ← e .ending .ensures, c .before .before .cause .given .1, c .kind-by .ensures, kind-number _ _, kind-position _ _)
 
 returns-3 : tie.Need-returns-3
 unfolding told number position answeredBy
-returns-3 c = rw (c .before .before .why .given .1, ← c .kind2 .ensures .0, c .kind2 .ensures .1)
+returns-3 c = rw (c .before .before .why .given .1, c .kind-by2 .ensures, kind-number _ _, kind-position _ _)
 
 returns-4 : tie.Need-returns-4
 unfolding told number position answeredBy
@@ -62,9 +63,9 @@ outcome-spec =
     ending-requires
     enum-told-2
     enum-known-cause
-    kind-requires
+    kind-by-requires
     enum-known-why
-    kind-requires-2
+    kind-by-requires-2
     enum-told-3
     enum-told-4
     returns

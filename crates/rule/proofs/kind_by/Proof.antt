@@ -1,8 +1,8 @@
--- `reader::kind_by`: by the cause. Assumes nothing.
-use Rattle.stream.specs.Stepped.{kindBy}
+-- `kind_by`: by the cause. Assumes nothing.
+use Rattle.rule.specs.Meaning.{kindBy}
 use borrow.Author.Needs.{needs}
-use Rattle.stream.proofs.reader.kind_by.Statement.{statement}
-use Rattle.stream.proofs.reader.kind_by.Tie as tie
+use Rattle.rule.proofs.kind_by.Statement.{statement}
+use Rattle.rule.proofs.kind_by.Tie as tie
 
 enum-told : tie.Need-enum-told
 enum-told c = search needs
