@@ -64,14 +64,6 @@ module _ (a opts : ℕ) where
     unfolding runBytes
     run-fresh-bytes e = rw (fresh-ready e)
 
-    pub run-unfit : allowed a opts ≡ false → runAs a opts (coreOf fresh) t room ≡ unfit (coreOf fresh)
-    unfolding runAs
-    run-unfit e = rw (not-ready e)
-
-    pub run-unfit-bytes : allowed a opts ≡ false → runBytes a opts (coreOf fresh) t room ≡ []
-    unfolding runBytes
-    run-unfit-bytes e = rw (not-ready e)
-
   -- the same with room for as many bytes as the text has
   module _ (t : List ℕ) where
     pub fresh-runs : allowed a opts ≡ true → freshAs a opts t ≡ ranAs (runPiece a opts t fresh (length t))

@@ -1,7 +1,7 @@
 -- Accepted texts are answered 0: a text of digits and pads that are closed is read to its end. Assumes nothing.
 use Prim.Native.Nat.{ℕ, zero, suc, _+_, _-_, _%_, _^_, _<_, _≤_}
 use mathlib.Core.Path.{_≡_, refl, sym, ap, ap₂, _∙_, subst}
-use mathlib.Core.Logic.{_⊎_, inl, inr, _↔_}
+use mathlib.Core.Logic.{_⊎_, inl, inr}
 use mathlib.Core.Bool.{Bool, true, false, cond, not, _&&_}
 use mathlib.Core.List.{head-eq-of-cons-eq, tail-eq-of-cons-eq, nil≢cons, cons≢nil, List, [], _∷_, _++_, append-assoc, append-nil}
 use native.Mathlib.Nat.{add-zero, mod-lt}
@@ -24,7 +24,7 @@ use Rattle.reading.proofs.ReaderLaws.{state, seen, to-pad, feed-dropped
 use Rattle.reading.proofs.PlainText.{plain, plain-case, turned-back}
 use Rattle.reading.proofs.Seen.{fresh-seen}
 use Rattle.reading.proofs.CleaningLaws.{padsAfter, pads-kept}
-use Rattle.reading.proofs.ZeroIsAccepted.{Closed, accepts→accepted}
+use Rattle.reading.proofs.ZeroIsAccepted.{Closed}
 use Rattle.reading.proofs.CleaningBack.{Shape, cleared-back, refilled-back, accepted-closed}
 
 -- ---- a text of closed digits and pads is read to its end
@@ -150,7 +150,3 @@ accepted→accepts a h opts t c =
   where
     whole : {u : List ℕ} → ByDigits a u → Shape a u
     whole d = record { values = d .values; pads = wanting (group a) (length (d .values)); below = d .below; form = sym (spelled-is a (d .values)) ∙ d .form }
-
--- 0 exactly on accepted texts
-pub judged-iff : (a : ℕ) → a < 6 → (opts : ℕ) (t : List ℕ) → (readAll a opts t .answer ≡ 0) ↔ Accepted a opts t
-judged-iff a h opts t = (accepts→accepted a h opts t, accepted→accepts a h opts t)

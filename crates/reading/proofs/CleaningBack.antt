@@ -73,10 +73,6 @@ record Replaced (a : ℕ) (t u : List ℕ) : Type 0 where
   a-digit : isDigit a (getD t (last t) 0) ≡ true
   by : u ≡ set t (last t) (clearedDigit a (spare a (padRun t)) (getD t (last t) 0))
 
-and-true : (x y : Bool) → x && y ≡ true → (x ≡ true) × (y ≡ true)
-and-true true y e = (refl, e)
-and-true false y e = absurd (subst T (sym e) tt)
-
 cleared-cases : (a opts : ℕ) (t : List ℕ) → (cleared a opts t ≡ t) ⊎ Replaced a t (cleared a opts t)
 unfolding cleared last
 cleared-cases a opts t =

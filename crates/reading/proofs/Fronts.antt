@@ -4,16 +4,12 @@ use mathlib.Core.Path.{_≡_, sym, ap, _∙_}
 use mathlib.Core.Logic.{_⊎_, inl, inr}
 use mathlib.Core.List.{List, [], _++_, append-assoc}
 use native.Mathlib.Omega.{arith}
-use lib.ListN.{take, drop, take-append-drop, length}
-use Rattle.alphabet.specs.Digits.{bytesOf}
-use Rattle.alphabet.specs.Alphabet.{bits}
+use lib.ListN.{take, drop, take-append-drop}
 use Rattle.reading.specs.Cleaning.{Accepted}
 use Rattle.reading.specs.Reader.{State, Reading, going, stopped, fresh, feedAll}
-use Rattle.reading.specs.Continuation.{Continued, LongestShared}
-use Rattle.reading.proofs.ReaderLaws.{Stop, state}
+use Rattle.reading.proofs.ReaderLaws.{Stop}
 use Rattle.reading.proofs.Seen.{Seen, progress, start, feed-append, feed-stopped}
-use Rattle.reading.proofs.Continuations.{refused-none, read-continued}
-use Rattle.reading.proofs.Shared.{longest-shared}
+use Rattle.reading.proofs.Continuations.{refused-none}
 
 going-no-stop : {s : State} {out : List ℕ} {k i : ℕ} {end : List ℕ} → going s out ≡ stopped k i end → ⊥
 going-no-stop e = let z : _≡_ {A = ℕ} 0 1 = cc in omega arith
@@ -47,14 +43,3 @@ module _ (a : ℕ) (h : a < 6) (opts : ℕ) where
   pub front-accepted : (t : List ℕ) (n : ℕ) (u : List ℕ) → Stop (read a opts (take n t)) → Accepted a opts (t ++ u) → ⊥
   front-accepted t n u x c =
       refused-none a h opts (take n t) (drop n t ++ u) x (rw (← append-assoc, take-append-drop) c)
-
-  -- at each moment: what a reader that goes on has given is what all accepted continuations share, and there is one
-  pub going-longest : (t : List ℕ) (s : State) (out : List ℕ) → read a opts t ≡ going s out → LongestShared a opts t out
-  going-longest t s out e =
-      let x : Seen a opts t (read a opts t) = seen-going t e in
-      let same : going s out ≡ going (state a (x .values) (x .pads) (length t)) (bytesOf (bits a) (x .values)) = sym e ∙ x .here in
-      let bytes : out ≡ bytesOf (bits a) (x .values) = cc in
-      rw bytes (longest-shared a h opts t x)
-
-  pub going-continued : (t : List ℕ) (s : State) (out : List ℕ) → read a opts t ≡ going s out → Continued a opts t
-  going-continued t s out e = read-continued a h opts t _ (seen-going t e)

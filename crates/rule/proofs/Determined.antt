@@ -11,10 +11,6 @@ use Rattle.rule.specs.declared.End.the-variants as E
 use Rattle.rule.specs.Meaning.{number, endOf, causeOf}
 use Rattle.rule.proofs.Causes.{cause-back}
 
--- two answers that an equation allows are one
-pub by-equation : {A : Type 0} {x y f : A} → x ≡ f → y ≡ f → x ≡ y
-by-equation p q = p ∙ sym q
-
 number-some : (c : Cause) → eqb (number c) 0 ≡ false
 unfolding number
 number-some C.TooLong = refl

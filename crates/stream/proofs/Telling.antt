@@ -63,10 +63,6 @@ answer-told over n = told-finished (count n)
 abbrev Kept : S.Status → Type 0
 Kept u = statusOf (statusAs u) ≡ u
 
-kept-shut : {k : ℕ} → IsCause k → Kept (S.shut k)
-unfolding statusOf statusAs
-kept-shut x = ap S.shut (number-back x)
-
 kept-of : (u : Status) → Kept (statusOf u)
 kept-of u = ap statusOf (status-back u)
 
