@@ -1,16 +1,18 @@
 // The answers of 01's table as types: where, how many, and why a text is refused.
+#![tactic(auto)]
+
 pub mod numbers; // numbers.rt: an answer as 01's three numbers
 
 // A place: an index into the text that was handed over, or the length of a text.
-#[derive(Drop)]
+#[derive(Clone, Copy)]
 pub struct Place(pub usize);
 
 // A number of bytes in a buffer, written or needed.
-#[derive(Drop)]
+#[derive(Clone, Copy)]
 pub struct Count(pub usize);
 
 // Why a call refuses, with its place where 01 gives one other than 0.
-#[derive(Drop)]
+#[derive(Clone, Copy)]
 pub enum Kind {
     Choice,
     TooLong(Place),
@@ -25,7 +27,7 @@ pub enum Kind {
 }
 
 // What a call answers: accepted, with the place reached and the count; or refused, with the kind and the count.
-#[derive(Drop)]
+#[derive(Clone, Copy)]
 pub enum Outcome {
     Accepted(Place, Count),
     Refused(Kind, Count),

@@ -9,7 +9,7 @@ ghost use Rattle.engine.specs.Loop.{Passes, passed_as};
 use rule::Core;
 
 // What digits came to: the state then, the bytes of text taken and the bytes written.
-#[derive(Drop)]
+#[derive(Clone, Copy)]
 pub(crate) struct Passed {
     pub core: Core,
     pub took: usize,

@@ -1,4 +1,6 @@
 // The reading engine: what one byte of text does to a state, and what a piece does.
+#![tactic(auto)]
+
 mod step; // step.rt: what one byte does, in 01's order
 mod digits; // digits.rt: the loop over digits as they stand
 mod parts; // parts.rt: a text in parts, counting alone and in place

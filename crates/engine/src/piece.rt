@@ -20,7 +20,7 @@ use rule::state::{fresh, ready};
 use rule::{Cause, Core};
 
 // Why a run over a piece stopped. Unfit: the choice or the state is none that reading starts from, and nothing was done.
-#[derive(Drop)]
+#[derive(Clone, Copy)]
 pub enum Why {
     All,
     Refused(Cause),
@@ -29,7 +29,7 @@ pub enum Why {
 }
 
 // The state then, why it stopped, how many bytes it took and how many it gave.
-#[derive(Drop)]
+#[derive(Clone, Copy)]
 pub struct Ran {
     pub core: Core,
     pub why: Why,

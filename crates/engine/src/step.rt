@@ -12,7 +12,7 @@ use rule::{Cause, Core, dropped, turned, wants};
 use table::Symbol;
 
 // What a byte does: it is taken, it completes a byte, or it is refused.
-#[derive(Drop)]
+#[derive(Clone, Copy)]
 pub enum Took {
     Takes(Core),
     Gives(u8, Core),

@@ -1,9 +1,11 @@
 // The program's first line: a verb J, D or E, space, one alphabet digit, space, two digits of options, byte 10.
+#![tactic(auto)]
+
 ghost use Rattle.std.specs.Prelude.{◌≡◌, ◌<◌, ◌≤◌, length};
 ghost use Rattle.line.specs.FirstLine.{is_digit, value, shaped, asked, first_of};
 
 // What a first line asks for. Whether its choice is answer 1 is the stream's start to say.
-#[derive(Drop)]
+#[derive(Clone, Copy)]
 pub enum First {
     Judge(usize, usize),
     Decode(usize, usize),

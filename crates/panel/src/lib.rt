@@ -1,5 +1,7 @@
 // The C face: judge, whole reader and whole writer on numbers and byte slices, which C passes as a pointer and a length. Answer, position and count are
 // asked by a call each; the call that writes returns the answer.
+#![tactic(auto)]
+
 ghost use Rattle.std.specs.Prelude.{◌≡◌};
 ghost use Rattle.answer.specs.Told.{told};
 ghost use Rattle.block.specs.Whole.{judge_of, read_of};

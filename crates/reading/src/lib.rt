@@ -1,4 +1,6 @@
 // The meaning of reading: definitions and their laws, and the one number of 01 that code and definitions share.
+#![tactic(auto)]
+
 ghost use Rattle.std.specs.Prelude.{◌≡◌};
 ghost use Rattle.reading.specs.Limit as Limit;
 

@@ -1,10 +1,12 @@
 // Regrouping a step at a time: a digit into the held bits, perhaps a byte out.
 // A width or a number of held bits above 7 is read modulo 8, and a result keeps its 8 low bits.
+#![tactic(auto)]
+
 ghost use Rattle.std.specs.Prelude.{◌≡◌, ◌+◌, ◌*◌, ◌/◌, ◌%◌, ◌^◌, ◌≤◌, ◌<◌};
 ghost use Rattle.regroup.specs.Regroup.{fed};
 
 // After a digit: the bits held, or a byte and the bits held after it.
-#[derive(Drop)]
+#[derive(Clone, Copy)]
 pub enum Fed {
     Held(u8),
     Byte(u8, u8),

@@ -1,5 +1,7 @@
 // The reader's rule but for what a byte does to a state: the test of a choice, what an option drops and turns, the pads that are wanted, and what the
 // end of the text gives.
+#![tactic(auto)]
+
 pub mod choice; // choice.rt: which alphabets and options are answered 1
 pub mod state; // state.rt: the state before any text, and the test of a state
 
@@ -13,7 +15,7 @@ use answer::{Kind, Place};
 use choice::chosen;
 
 // Digits and pads so far, the bits that no byte has yet, and the bytes of text taken.
-#[derive(Drop)]
+#[derive(Clone, Copy)]
 pub struct Core {
     pub digits: usize,
     pub held: u8,
@@ -22,7 +24,7 @@ pub struct Core {
 }
 
 // Why a byte, or the end of the text, is refused.
-#[derive(Drop)]
+#[derive(Clone, Copy)]
 pub enum Cause {
     TooLong,
     Foreign,
@@ -33,7 +35,7 @@ pub enum Cause {
 }
 
 // What the end of the text gives.
-#[derive(Drop)]
+#[derive(Clone, Copy)]
 pub enum End {
     Whole,
     Refused(Cause),

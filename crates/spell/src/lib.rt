@@ -1,11 +1,13 @@
 // The writer's loop: the bytes of a piece as digits. The limit is cut off before, and the ending is put after.
+#![tactic(auto)]
+
 ghost use Rattle.std.specs.Prelude.{◌≡◌, ◌/◌, ◌%◌, ◌^◌, ◌<◌, ◌≤◌, length};
 ghost use Rattle.alphabet.specs.Alphabet.{bits, digit};
 ghost use Rattle.table.specs.Table.{digit_entries};
 ghost use Rattle.spell.specs.Promised.{spell_of, spelled_of, Spells, leaving, WentAs};
 
 // What a run of bytes came to: the bits held, the bytes of the source taken and the digits written.
-#[derive(Drop)]
+#[derive(Clone, Copy)]
 pub struct Went {
     pub held: u8,
     pub taken: usize,

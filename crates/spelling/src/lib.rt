@@ -1,5 +1,7 @@
 // The meaning of writing: definitions and their laws. Of code only what counts: the longest source, the length of a written form, the test of a
 // writer's numbers, and what a whole call answers.
+#![tactic(auto)]
+
 pub mod measure; // measure.rt: what the whole writer answers, asked without a buffer
 
 ghost use Rattle.std.specs.Prelude.{◌≡◌, ◌<◌, ◌≤◌};
@@ -9,7 +11,7 @@ ghost use Rattle.spelling.specs.Sound.{sound_numbers};
 ghost use Rattle.spelling.specs.Size.{longest_of, size_of};
 
 // Why a run over a piece stopped: all of it is taken, a byte is refused for the limit, or the next byte needs room.
-#[derive(Drop)]
+#[derive(Clone, Copy)]
 pub enum Why {
     All,
     Limit,
@@ -17,7 +19,7 @@ pub enum Why {
 }
 
 // The length of a written form, where there is one within the limit.
-#[derive(Drop)]
+#[derive(Clone, Copy)]
 pub enum Size {
     Unknown,
     TooLong,

@@ -1,4 +1,6 @@
 // "Answer 9 is given exactly when no sequence of calls from a start gives that state": the test of a state.
+#![tactic(auto)]
+
 ghost use Rattle.std.specs.Prelude.{◌≡◌};
 ghost use Rattle.reading.specs.Reader as Reader;
 ghost use Rattle.rule.specs.Meaning.{state_of, number};
@@ -11,7 +13,7 @@ use rule::state::ready;
 use rule::{Cause, Core, End, dropped, ending, wants};
 
 // Whether a stream goes on, has refused, or is finished. A refusal's place is not kept: it is the number of bytes taken.
-#[derive(Drop)]
+#[derive(Clone, Copy)]
 pub enum Status {
     Open,
     Shut(Cause),

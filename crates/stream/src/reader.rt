@@ -8,7 +8,7 @@ use engine::piece::{Ran, Why};
 use rule::{Core, End, kind_by};
 use states::{Status, given};
 
-#[derive(Drop)]
+#[derive(Clone, Copy)]
 pub struct Reader {
     pub alphabet: usize,
     pub options: usize,
@@ -16,20 +16,20 @@ pub struct Reader {
     pub status: Status,
 }
 
-#[derive(Drop)]
+#[derive(Clone, Copy)]
 pub enum Start {
     Started(Reader),
     Declined(Kind),
 }
 
 // What a step or a finish answers, with the bytes of text taken in this call.
-#[derive(Drop)]
+#[derive(Clone, Copy)]
 pub struct Told {
     pub outcome: Outcome,
     pub taken: Place,
 }
 
-#[derive(Drop)]
+#[derive(Clone, Copy)]
 pub struct Stepped {
     pub state: Reader,
     pub told: Told,

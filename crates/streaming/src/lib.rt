@@ -1,1 +1,2 @@
 // The meaning of the reader's stream: definitions and their laws, and no code.
+#![tactic(auto)]

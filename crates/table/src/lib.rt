@@ -1,9 +1,11 @@
 // The one reverse table of 1,536 entries, 256 for each alphabet, and the table of digits. A table is taken once a call and lent.
+#![tactic(auto)]
+
 ghost use Rattle.std.specs.Prelude.{◌≡◌};
 ghost use Rattle.table.specs.Table.{entries, symbol_in, digit_entries, digit_in};
 
 // What a byte is in an alphabet.
-#[derive(Drop)]
+#[derive(Clone, Copy)]
 pub enum Symbol {
     Digit(u8),
     Pad,

@@ -1,4 +1,6 @@
 // The tidier: the cleaned text of an accepted one. The text is read twice: it is counted, and its digits are written in the alphabet's own case.
+#![tactic(auto)]
+
 ghost use Rattle.std.specs.Prelude.{◌≡◌, true, ◌∷◌, [], ◌++◌, ◌+◌, ◌-◌, ◌<◌, ◌≤◌, length, take, replicate};
 ghost use Rattle.alphabet.specs.Alphabet as Alphabet;
 ghost use Rattle.table.specs.Table.{entries};
@@ -15,7 +17,7 @@ use block::judging::outcome;
 use table::Symbol;
 
 // The digit that a byte is written as, if any.
-#[derive(Drop)]
+#[derive(Clone, Copy)]
 enum Own {
     Digit(u8),
     Nothing,

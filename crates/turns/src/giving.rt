@@ -6,14 +6,14 @@ use crate::{goes_on, within};
 use writing::{Stepped, Writer};
 
 // A writer, and the part of the buffer that it has not taken yet.
-#[derive(Drop)]
+#[derive(Clone, Copy)]
 pub struct Going {
     pub writer: Writer,
     pub at: usize,
     pub end: usize,
 }
 
-#[derive(Drop)]
+#[derive(Clone, Copy)]
 pub enum Turn {
     On(Going),
     Ended,

@@ -1,4 +1,6 @@
 // What a step's answer means for the program's loops: whether they go on, and from where.
+#![tactic(auto)]
+
 pub mod giving; // giving.rt: after a writer's step
 pub mod taking; // taking.rt: after a reader's step
 

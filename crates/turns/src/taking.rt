@@ -7,7 +7,7 @@ use answer::Outcome;
 use stream::reader::{Reader, Stepped};
 
 // A reader, the good bytes that it has given, and the part of the buffer that it has not taken yet.
-#[derive(Drop)]
+#[derive(Clone, Copy)]
 pub struct Going {
     pub reader: Reader,
     pub good: usize,
@@ -16,7 +16,7 @@ pub struct Going {
 }
 
 // The loop goes on; the answer is settled, with the good bytes counted; or a read or a write failed.
-#[derive(Drop)]
+#[derive(Clone, Copy)]
 pub enum Turn {
     On(Going),
     Settled(Outcome, usize),

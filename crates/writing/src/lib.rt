@@ -1,4 +1,6 @@
 // The writer: the written form of a source, whole and as a stream by value. Here stand the types and what both share.
+#![tactic(auto)]
+
 mod stream; // stream.rt: start, step and finish by value
 mod whole; // whole.rt: the whole call
 
@@ -19,7 +21,7 @@ use spelling::{Size, Why};
 pub use whole::write;
 
 // Whether a writer goes on, refused a byte for the limit, or is finished.
-#[derive(Drop)]
+#[derive(Clone, Copy)]
 pub enum Status {
     Open,
     TooLong,
@@ -27,7 +29,7 @@ pub enum Status {
 }
 
 // A stream's state: the source bytes taken, and the bits of them that no digit has yet.
-#[derive(Drop)]
+#[derive(Clone, Copy)]
 pub struct Writer {
     pub alphabet: usize,
     pub taken: usize,
@@ -35,26 +37,26 @@ pub struct Writer {
     pub status: Status,
 }
 
-#[derive(Drop)]
+#[derive(Clone, Copy)]
 pub enum Start {
     Started(Writer),
     Declined(Kind),
 }
 
 // What a step or a finish answers, with the source bytes taken in this call.
-#[derive(Drop)]
+#[derive(Clone, Copy)]
 pub struct Told {
     pub outcome: Outcome,
     pub taken: Place,
 }
 
-#[derive(Drop)]
+#[derive(Clone, Copy)]
 pub struct Stepped {
     pub state: Writer,
     pub told: Told,
 }
 
-#[derive(Drop)]
+#[derive(Clone, Copy)]
 struct Ran {
     held: u8,
     why: Why,

@@ -6,7 +6,7 @@ use libc::STDIN_FILENO;
 use line::LINE;
 
 // How many bytes came; none at the end of the input.
-#[derive(Drop)]
+#[derive(Clone, Copy)]
 pub enum Got {
     Bytes(usize),
     Failed,

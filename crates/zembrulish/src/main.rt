@@ -1,4 +1,6 @@
 // The program: its first line says what to do, the rest of standard input is data, which is read, worked on and written piece by piece.
+#![tactic(auto)]
+
 mod giving; // giving.rt: E, the loop over the streaming writer
 mod input; // input.rt: standard input, read into a lent buffer
 mod output; // output.rt: standard output
