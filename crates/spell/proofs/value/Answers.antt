@@ -6,25 +6,15 @@ use lib.Pow.{pow_pos, pow_mono}
 use Rattle.regroup.proofs.RegroupLaws.{rest_lt}
 use Rattle.regroup.proofs.Shifts.{one_shifted, masked}
 use borrow.Author.Rules.{rules}
-use Rattle.spell.proofs.value.Statement.{statement}
-use Rattle.spell.proofs.value.Tie as tie
+use Rattle.spell.proofs.value.Goals as goal
 
-shr-result : tie.Need-overflow-shr-result
-shr-result c = search rules
+pub overflow_sub-result : goal.overflow_sub-result
+overflow_sub-result c = omega (arith, one_shifted c.args.b (search rules), pow_pos c.args.b)
 
-shl-result : tie.Need-overflow-shl-result
-shl-result c = search rules
-
-sub-result : tie.Need-overflow-sub-result
-sub-result c = omega (arith, one_shifted c.args.b (search rules), pow_pos c.args.b)
-
-cast-result : tie.Need-overflow-cast-result
-cast-result c =
+pub overflow_cast-result : goal.overflow_cast-result
+overflow_cast-result c =
     rw (masked (c.args.z / 2 ^ c.args.k) c.args.b (omega arith))
     (record { fits = lt_of_lt_of_le (rest_lt c.args.b (c.args.z / 2 ^ c.args.k)) (pow_mono {j = 8} (omega arith)) })
 
-returns : tie.Need-returns
+pub returns : goal.returns
 returns c = masked (c.args.z / 2 ^ c.args.k) c.args.b (omega arith)
-
-pub value_spec : {M : Type 1} → statement M
-value_spec = tie.close (tie.spec shr-result shl-result sub-result cast-result returns)
