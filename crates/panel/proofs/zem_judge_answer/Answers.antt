@@ -1,0 +1,6 @@
+-- `zem_judge_answer`: the judge's answer as a number. Assumes nothing.
+use borrow.Author.Rules.{rules}
+use Rattle.panel.proofs.zem_judge_answer.Goals as goal
+
+pub returns : goal.returns
+returns c = rw (c.answer.ensures, c.judge.ensures.is)
