@@ -2,7 +2,6 @@
 use mathlib.Core.Path.{sym, ◌∙◌}
 use borrow.Author.Tests.{eq-eqb, ne_eqb}
 use Rattle.line.specs.FirstLine.{shaped}
-use borrow.Author.Rules.{rules}
 use Rattle.line.proofs.is_shaped.Goals as goal
 
 pub returns-then-line-ne32 : goal.returns-then-line-ne32

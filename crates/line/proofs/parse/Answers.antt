@@ -2,7 +2,6 @@
 use borrow.Author.Tests.{lt-ltb, le-ltb}
 use mathlib.Core.Path.{sym, ◌∙◌}
 use Rattle.line.specs.FirstLine.{first_of}
-use borrow.Author.Rules.{rules}
 use Rattle.line.proofs.parse.Goals as goal
 
 pub returns-then-input-lt-LINE : goal.returns-then-input-lt-LINE

@@ -1,7 +1,6 @@
 -- Each answer is the case of `fed` that the test picks. Assumes nothing.
 use borrow.Author.Tests.{lt-ltb, le-ltb}
 use Rattle.regroup.specs.Regroup.{byte_and, fed}
-use borrow.Author.Rules.{rules}
 use Rattle.regroup.proofs.feed.Goals as goal
 
 pub returns-then-k-lt8 : goal.returns-then-k-lt8

@@ -2,7 +2,6 @@
 use mathlib.Core.Path.{◌∙◌}
 use native.Mathlib.Omega.{arith}
 use Rattle.rule.proofs.ByCases.{drops_13, drops_10, drops_32, drops_9, drops_none}
-use borrow.Author.Rules.{rules}
 use Rattle.rule.proofs.dropped.Goals as goal
 
 pub returns-in-13 : goal.returns-in-13

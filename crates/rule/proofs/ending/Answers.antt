@@ -3,7 +3,6 @@ use mathlib.Core.Path.{sym, ◌∙◌}
 use borrow.Author.Tests.{lt-ltb, le-ltb, eq-eqb, ne_eqb}
 use Rattle.reading.specs.Reader.{ending, wants}
 use Rattle.rule.specs.Meaning.{number, unpadded_end}
-use borrow.Author.Rules.{rules}
 use Rattle.rule.proofs.ending.Goals as goal
 
 pub returns-then-pads-w : goal.returns-then-pads-w

@@ -1,6 +1,5 @@
 -- `kind_by`: by the cause. Assumes nothing.
 use Rattle.rule.specs.Meaning.{kind_by}
-use borrow.Author.Rules.{rules}
 use Rattle.rule.proofs.kind_by.Goals as goal
 
 pub returns-in-TooLong : goal.returns-in-TooLong

@@ -1,7 +1,6 @@
 -- `last_group`: a remainder, and by 0 the number itself. Assumes nothing.
 use mathlib.Core.Path.{sym}
 use native.Mathlib.Nat.{mod-zero}
-use borrow.Author.Rules.{rules}
 use Rattle.rule.proofs.last_group.Goals as goal
 
 pub returns-then-g-eq0 : goal.returns-then-g-eq0

@@ -1,7 +1,6 @@
 -- `lower`: the tests on the byte decide. Assumes nothing.
 use borrow.Author.Tests.{le-leb, lt-leb}
 use Rattle.reading.specs.Cleaning.{lower}
-use borrow.Author.Rules.{rules}
 use Rattle.rule.proofs.lower.Goals as goal
 
 pub returns-then-byte-le90 : goal.returns-then-byte-le90

@@ -2,7 +2,6 @@
 use mathlib.Core.Path.{sym, ◌∙◌}
 use borrow.Author.Tests.{eq-eqb, ne_eqb}
 use Rattle.reading.specs.Cleaning.{turned}
-use borrow.Author.Rules.{rules}
 use Rattle.rule.proofs.turned.Goals as goal
 
 pub returns-then-alphabet-eq5 : goal.returns-then-alphabet-eq5

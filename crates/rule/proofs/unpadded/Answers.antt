@@ -2,7 +2,6 @@
 use mathlib.Core.Path.{sym, ◌∙◌}
 use borrow.Author.Tests.{eq-eqb, ne_eqb}
 use Rattle.rule.specs.Meaning.{number, unpadded_end}
-use borrow.Author.Rules.{rules}
 use Rattle.rule.proofs.unpadded.Goals as goal
 
 pub returns-then-wants-eq0 : goal.returns-then-wants-eq0

@@ -1,7 +1,6 @@
 -- `upper`: the tests on the byte decide. Assumes nothing.
 use borrow.Author.Tests.{le-leb, lt-leb}
 use Rattle.reading.specs.Cleaning.{upper}
-use borrow.Author.Rules.{rules}
 use Rattle.rule.proofs.upper.Goals as goal
 
 pub returns-then-byte-le122 : goal.returns-then-byte-le122

@@ -1,5 +1,4 @@
 -- `wants`: the table at the digits of the last group. Assumes nothing.
-use borrow.Author.Rules.{rules}
 use Rattle.rule.proofs.wants.Goals as goal
 
 pub returns : goal.returns

@@ -1,7 +1,6 @@
 -- At each return the tests that led there pick the case of `digit_in`. Assumes nothing.
 use borrow.Author.Tests.{lt-ltb, le-ltb}
 use Rattle.table.specs.Table.{digit_in}
-use borrow.Author.Rules.{rules}
 use Rattle.table.proofs.digit.Goals as goal
 
 pub returns-then-alphabet-ge6 : goal.returns-then-alphabet-ge6

@@ -1,5 +1,4 @@
 -- At each return the tests that led there pick the case of `symbol_in`. Assumes nothing.
-use borrow.Author.Rules.{rules}
 use borrow.Author.Tests.{lt-ltb, le-ltb, eq-eqb, ne_eqb}
 use Rattle.alphabet.specs.Alphabet.{padded, is_pad}
 use Rattle.table.specs.Table.{symbol_in}

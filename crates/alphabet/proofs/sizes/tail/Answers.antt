@@ -1,5 +1,4 @@
 -- The tests on the alphabet's number pick its row, and the row's function its entry. Assumes nothing.
-use borrow.Author.Rules.{rules}
 use native.Mathlib.Omega.{arith}
 use borrow.Author.Tests.{lt-ltb, le-ltb}
 use Rattle.alphabet.proofs.SizeTests.{tail_by}

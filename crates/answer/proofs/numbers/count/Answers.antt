@@ -1,6 +1,5 @@
 -- `numbers::count`: by the case. Assumes nothing.
 use Rattle.answer.specs.Told.{told}
-use borrow.Author.Rules.{rules}
 use Rattle.answer.proofs.numbers.count.Goals as goal
 
 pub returns-in-Accepted : goal.returns-in-Accepted

@@ -1,6 +1,5 @@
 -- `numbers::number`: by the kind. Assumes nothing.
 use Rattle.answer.specs.Told as spec
-use borrow.Author.Rules.{rules}
 use Rattle.answer.proofs.numbers.number.Goals as goal
 
 pub returns-in-Choice : goal.returns-in-Choice

@@ -1,6 +1,5 @@
 -- `numbers::place`: by the kind. Assumes nothing.
 use Rattle.answer.specs.Told as spec
-use borrow.Author.Rules.{rules}
 use Rattle.answer.proofs.numbers.place.Goals as goal
 
 pub returns-in-Choice : goal.returns-in-Choice

@@ -1,6 +1,5 @@
 -- `numbers::position`: by the case. Assumes nothing.
 use Rattle.answer.specs.Told.{told}
-use borrow.Author.Rules.{rules}
 use Rattle.answer.proofs.numbers.position.Goals as goal
 
 pub returns-in-Accepted : goal.returns-in-Accepted

@@ -3,14 +3,14 @@
 -- the byte that was read, and the value that the table gives
 -- the byte is a digit
 -- ---- the needs
-use Prim.Native.Nat.{ℕ, ◌+◌, ◌-◌, ◌*◌, ◌%◌, ◌<◌, ◌≤◌}
+use Prim.Native.Nat.{ℕ, ◌+◌, ◌*◌, ◌%◌, ◌<◌, ◌≤◌}
 use mathlib.Core.Path.{refl, ap}
 use native.Mathlib.Omega.{arith}
 use lib.ListN.{length, get_or}
 use Rattle.alphabet.proofs.AlphabetLaws.{bits_high}
 use Rattle.engine.specs.Ran.{Ready}
 use Rattle.rule.proofs.Readiness.{small_product}
-use Rattle.engine.proofs.Plain.{Plain, digits_below, plain_fit, plain_begins, plain_few, plain_size, plain_fits, plain_sums}
+use Rattle.engine.proofs.Plain.{digits_below, plain_fit, plain_begins, plain_few, plain_size, plain_fits, plain_sums}
 use Rattle.engine.proofs.Plain.{plain_passes, byte_small, plain_joins, plain_holds, plain_gives}
 use Rattle.engine.proofs.digits.at_width.Goals as goal
 

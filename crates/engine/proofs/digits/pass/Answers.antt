@@ -1,7 +1,6 @@
 -- `digits::pass`: nothing after padding, else the loop at the alphabet's width. Assumes nothing.
 use mathlib.Core.Path.{sym, ◌∙◌}
 use native.Mathlib.Omega.{arith}
-use borrow.Author.Rules.{rules}
 use Rattle.alphabet.proofs.AlphabetLaws.{bits_low, bits_high}
 use Rattle.engine.proofs.Loops.{filling_begins}
 use Rattle.engine.proofs.digits.pass.Goals as goal

@@ -1,15 +1,6 @@
-use Prim.Native.Nat.{◌-◌, ◌<◌, ◌≤◌}
-use mathlib.Core.Path.{◌≡◌, refl, sym, ◌∙◌, subst}
-use native.Mathlib.Omega.{arith}
-use borrow.Author.Rules.{rules}
-use Rattle.reading.proofs.LimitLaws.{limit_small}
-use Rattle.reading.proofs.OptionLaws.{allowed_alphabet}
-use Rattle.engine.specs.declared.piece.Why.TheVariants as W
-use lib.ListN.{length, take, drop}
-use Rattle.engine.specs.Ran.{then_as}
-use Rattle.engine.proofs.Reaching.{goes_on_law, left, left_less}
-use Rattle.engine.proofs.InParts.{Counting, Counted, counted_begins, counted_sums, counted_done, part_size, part_ready, counted_then}
-use Rattle.engine.proofs.InParts.{counted_some}
+use lib.ListN.{length}
+use Rattle.engine.proofs.Reaching.{left}
+use Rattle.engine.proofs.InParts.{Counted}
 use Rattle.engine.proofs.parts.tally.Given as goal
 
 abbrev pub invariant-loop-i : goal.invariant-loop-i

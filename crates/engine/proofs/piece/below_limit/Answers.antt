@@ -3,7 +3,6 @@ use Prim.Native.Nat.{◌-◌, ◌<◌, ◌≤◌}
 use borrow.Author.Tests.{lt-ltb, le-ltb}
 use Rattle.reading.specs.Limit.{limit}
 use Rattle.engine.specs.Ran.{below}
-use borrow.Author.Rules.{rules}
 use Rattle.engine.proofs.piece.below_limit.Goals as goal
 
 pub returns-then-left-len : goal.returns-then-left-len

@@ -1,10 +1,7 @@
 -- `piece::count`: what lies below the limit, counted. Assumes nothing.
-use mathlib.Core.Path.{◌≡◌, sym, ◌∙◌}
-use mathlib.Core.Bool.{true}
+use mathlib.Core.Path.{sym, ◌∙◌}
 use native.Mathlib.Omega.{arith}
 use lib.ListN.{length, take}
-use borrow.Author.Rules.{rules}
-use Rattle.reading.specs.Options.{allowed}
 use Rattle.engine.proofs.AtLimit.{below_length, below_fits, start_ready, fresh_is, fresh_none, from_start, unfit_start}
 use Rattle.engine.proofs.piece.count.Goals as goal
 

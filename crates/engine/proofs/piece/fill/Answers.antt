@@ -2,19 +2,17 @@
 -- ---- what is known in a turn
 -- after the stretch
 -- ---- the needs
-use Prim.Native.Nat.{ℕ, ◌+◌, ◌-◌, ◌<◌}
-use mathlib.Core.Path.{◌≡◌, refl, sym, ◌∙◌, subst}
+use Prim.Native.Nat.{◌-◌}
+use mathlib.Core.Path.{refl, sym, ◌∙◌, subst}
 use native.Mathlib.Omega.{arith}
-use mathlib.Core.List.{List, ◌++◌}
+use mathlib.Core.List.{◌++◌}
 use lib.ListN.{length, take, drop}
-use borrow.Author.Rules.{rules}
 use Rattle.reading.proofs.LimitLaws.{limit_small}
 use Rattle.reading.proofs.OptionLaws.{allowed_alphabet}
-use Rattle.engine.specs.declared.piece.Why.TheVariants as W
 use Rattle.engine.specs.Ran.{then_as}
 use Rattle.engine.specs.Loop.{Filling, Reached}
 use Rattle.engine.proofs.Loops.{rest_some, filling_ready}
-use Rattle.engine.proofs.Reaching.{goes_on_law, left, left_less, reached_begins, reached_size, reached_sums, reached_then, reached_done}
+use Rattle.engine.proofs.Reaching.{goes_on_law, left_less, reached_begins, reached_size, reached_sums, reached_then, reached_done}
 use Rattle.engine.proofs.piece.fill.Goals as goal
 
 pub loop-i-init : goal.loop-i-init

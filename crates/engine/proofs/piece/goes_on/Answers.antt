@@ -1,6 +1,5 @@
 -- `piece::goes_on_law`: by the reason. Assumes nothing.
 use Rattle.engine.specs.Ran.{goes_on}
-use borrow.Author.Rules.{rules}
 use Rattle.engine.proofs.piece.goes_on.Goals as goal
 
 pub returns-in-All : goal.returns-in-All

@@ -1,10 +1,7 @@
 -- `piece::in_place`: what lies below the limit, in place; every byte past the good ones is as before. Assumes nothing.
-use mathlib.Core.Path.{◌≡◌, sym, ◌∙◌}
-use mathlib.Core.Bool.{true}
+use mathlib.Core.Path.{sym, ◌∙◌}
 use native.Mathlib.Omega.{arith}
 use lib.ListN.{length, take}
-use borrow.Author.Rules.{rules}
-use Rattle.reading.specs.Options.{allowed}
 use Rattle.engine.proofs.AtLimit.{below_inside, below_length, below_fits, start_ready, fresh_is, fresh_filled, fresh_none}
 use Rattle.engine.proofs.AtLimit.{from_start, filled_start, unfit_start}
 use Rattle.engine.proofs.piece.in_place.Goals as goal

@@ -1,7 +1,6 @@
 -- `piece::put`: by what the byte does, and the room. Assumes nothing.
 use borrow.Author.Tests.{lt-ltb, le-ltb}
 use Rattle.engine.specs.Loop.{put_as, put_in}
-use borrow.Author.Rules.{rules}
 use Rattle.engine.proofs.piece.put.Goals as goal
 
 pub returns-then-n-out : goal.returns-then-n-out

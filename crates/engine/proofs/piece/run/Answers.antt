@@ -1,7 +1,6 @@
 -- `piece::run`: a ready state and what lies below the limit, or nothing. Assumes nothing.
 use mathlib.Core.Path.{refl, sym, ◌∙◌}
-use borrow.Author.Rules.{rules}
-use Rattle.rule.proofs.Readiness.{IsReady, is_ready}
+use Rattle.rule.proofs.Readiness.{is_ready}
 use Rattle.engine.proofs.AtLimit.{ready_for, below_length, below_fits, run_told, run_none}
 use Rattle.engine.proofs.piece.run.Goals as goal
 

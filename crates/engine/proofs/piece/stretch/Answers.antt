@@ -1,15 +1,12 @@
 -- `piece::stretch`: digits are passed, and the byte after them does what the definition says. Assumes nothing.
 -- ---- what is known after the digits
 -- ---- the needs
-use Prim.Native.Nat.{◌<◌}
 use mathlib.Core.Path.{refl}
 use native.Mathlib.Omega.{arith}
 use Rattle.reading.proofs.LimitLaws.{limit_small}
 use Rattle.reading.proofs.OptionLaws.{allowed_alphabet}
-use Rattle.engine.specs.Loop.{Filling}
 use Rattle.engine.proofs.Loops.{same_size, fit}
 use Rattle.engine.proofs.Reaching.{stretch_goes, stretch_put}
-use borrow.Author.Rules.{rules}
 use Rattle.engine.proofs.piece.stretch.Goals as goal
 
 pub pass-p-requires : goal.pass-p-requires

@@ -5,7 +5,6 @@ use borrow.Author.Tests.{lt-ltb}
 use Rattle.reading.specs.Reader.{on_digit, held_bits}
 use Rattle.rule.specs.Meaning.{number}
 use Rattle.engine.proofs.Steps.{product_fits, taken_fits, digits_fit, digit_held, digit_gives}
-use borrow.Author.Rules.{rules}
 use Rattle.engine.proofs.step.on_digit.Goals as goal
 
 pub returns-then-pads-gt0 : goal.returns-then-pads-gt0

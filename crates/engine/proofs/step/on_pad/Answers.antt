@@ -5,7 +5,6 @@ use borrow.Author.Tests.{lt-ltb, le-ltb, eq-eqb, ne_eqb}
 use Rattle.reading.specs.Reader.{on_pad, wants}
 use Rattle.rule.specs.Meaning.{number}
 use Rattle.engine.proofs.Steps.{taken_fits, pads_fit}
-use borrow.Author.Rules.{rules}
 use Rattle.engine.proofs.step.on_pad.Goals as goal
 
 pub overflow_add-more : goal.overflow_add-more

@@ -4,7 +4,6 @@ use native.Mathlib.Omega.{arith}
 use borrow.Author.Tests.{le-leb, lt-leb}
 use Rattle.reading.proofs.OptionLaws.{allowed_alphabet}
 use Rattle.rule.specs.State.{ready}
-use borrow.Author.Rules.{rules}
 use Rattle.rule.proofs.state.ready.Goals as goal
 
 pub small-requires : goal.small-requires

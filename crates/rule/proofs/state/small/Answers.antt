@@ -4,7 +4,6 @@ use native.Mathlib.Omega.{arith}
 use Rattle.rule.specs.State.{small}
 use Rattle.regroup.proofs.Shifts.{one_shifted}
 use Rattle.rule.proofs.Readiness.{small_product}
-use borrow.Author.Rules.{rules}
 use Rattle.rule.proofs.state.small.Goals as goal
 
 pub overflow_mul-r : goal.overflow_mul-r
