@@ -1,11 +1,11 @@
-//! Links the static library that `rt staticlib panel` writes below the repository's root.
+//! Links the static library that `rt lib` writes in `crates/panel`.
 
 use std::path::Path;
 use std::process::exit;
 
 fn main() {
     let here = std::env::var("CARGO_MANIFEST_DIR").expect("cargo names the package's folder");
-    let folder = Path::new(&here).join("../target/staticlib");
+    let folder = Path::new(&here).join("../crates/panel/out");
     let archive = folder.join("libpanel.a");
     println!("cargo:rerun-if-changed=build.rs");
     println!("cargo:rerun-if-changed={}", archive.display());
@@ -15,7 +15,7 @@ fn main() {
     }
     if !archive.is_file() {
         eprintln!("There is no {}.", archive.display());
-        eprintln!("Make it first, at the repository's root: `rt staticlib panel`, or ./.ci/run, which makes it too.");
+        eprintln!("Make it first, at the repository's root: `(cd crates/panel && rt lib)`, or ./.ci/run, which makes it too.");
         exit(1);
     }
     println!("cargo:rustc-link-search=native={}", folder.display());

@@ -1,7 +1,7 @@
 /*
  * Zembrulish: judge, read and write base64, base32 and hex, by proved code.
  *
- * Make the library with `rt staticlib panel` and link target/staticlib/libpanel.a (x86-64 Linux). It allocates nothing,
+ * Make the library with `(cd crates/panel && rt lib)` and link crates/panel/out/libpanel.a (x86-64 Linux). It allocates nothing,
  * keeps nothing between calls and may be called from several threads at once.
  *
  *   alphabet   0 base64     A-Z a-z 0-9 + /   padded with =
