@@ -1,4 +1,4 @@
-//! The program target/bin/zembrulish, driven through its standard input and output, beside the reference.
+//! The program crates/zembrulish/out/zembrulish, driven through its standard input and output, beside the reference.
 
 mod common;
 
@@ -12,8 +12,8 @@ use zembrulish::reference::{program, written, ALPHABETS};
 use zembrulish::LIMIT;
 
 fn path() -> PathBuf {
-    let path = PathBuf::from(env!("CARGO_MANIFEST_DIR")).join("../target/bin/zembrulish");
-    assert!(path.is_file(), "there is no {}: make it with `rt check zembrulish` or ./.ci/run at the repository's root", path.display());
+    let path = PathBuf::from(env!("CARGO_MANIFEST_DIR")).join("../crates/zembrulish/out/zembrulish");
+    assert!(path.is_file(), "there is no {}: make it with `rt run` in crates/zembrulish", path.display());
     path
 }
 

@@ -6,11 +6,11 @@ mod texts; // texts.rt: 01's table, and the tidied texts
 mod vectors; // vectors.rt: RFC 4648 section 10
 mod streams; // streams.rt: 01's stream example, by value and with a lent state
 
-fn main() {
-    texts::table();
-    texts::tidied();
-    vectors::written();
-    vectors::read();
-    streams::example();
-    streams::lent_example();
+fn main(rt: HostRuntime) {
+    texts::table(&rt);
+    texts::tidied(&rt);
+    vectors::written(&rt);
+    vectors::read(&rt);
+    streams::example(&rt);
+    streams::lent_example(&rt);
 }

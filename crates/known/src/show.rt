@@ -2,7 +2,6 @@
 ghost use Rattle.std.specs.Prelude.{◌≤◌};
 
 use answer::{Outcome, numbers};
-use libc::STDOUT_FILENO;
 
 // The smaller of two numbers.
 pub(crate) fn least(x: usize, y: usize) -> usize
@@ -11,24 +10,24 @@ pub(crate) fn least(x: usize, y: usize) -> usize
     if x < y { x } else { y }
 }
 
-pub(crate) fn words(text: &[u8]) {
-    io::write_all(STDOUT_FILENO, text);
+pub(crate) fn words(rt: &impl Print, text: &[u8]) {
+    let _ = rt.write_all(text);
 }
 
-pub(crate) fn number(n: usize) {
-    io::print_decimal(STDOUT_FILENO, n as u64);
-    words(b" ");
+pub(crate) fn number(rt: &impl Print, n: usize) {
+    let _ = rt.print(n);
+    words(rt, b" ");
 }
 
 // A line: what was asked, the three numbers of the answer, and as many bytes of the buffer as it counts.
-pub(crate) fn line(asked: &[u8], r: Outcome, out: &[u8]) {
-    words(asked);
-    words(b": ");
-    number(numbers::answer(r) as usize);
-    number(numbers::position(r));
+pub(crate) fn line(rt: &impl Print, asked: &[u8], r: Outcome, out: &[u8]) {
+    words(rt, asked);
+    words(rt, b": ");
+    number(rt, numbers::answer(r) as usize);
+    number(rt, numbers::position(r));
     let n = numbers::count(r);
-    number(n);
+    number(rt, n);
     let k = least(n, out.len());
-    words(&out[..k]);
-    words(b"\n");
+    words(rt, &out[..k]);
+    words(rt, b"\n");
 }

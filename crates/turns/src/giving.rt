@@ -20,6 +20,7 @@ pub enum Turn {
 }
 
 // After a step: what was not taken is offered again, or answer 2 ends it.
+#[tactic(auto, unfolding(crate::specs::Turns::write_on))]
 pub fn after(stepped: Stepped, at: usize, end: usize) -> Turn
     ensures { result ≡ write_on stepped at end }
 {

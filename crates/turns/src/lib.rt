@@ -11,6 +11,7 @@ ghost use Rattle.turns.specs.Turns.{goes_on};
 use answer::{Outcome, numbers};
 
 // Whether a step's answer lets the loop go on: the piece taken, or no room for its next byte.
+#[tactic(auto, unfolding(crate::specs::Turns::goes_on))]
 pub fn goes_on(outcome: Outcome) -> bool
     ensures { result ≡ goes_on (told outcome).answer }
 {

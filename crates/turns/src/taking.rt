@@ -27,6 +27,7 @@ pub enum Turn {
 const MOST: usize = 18446744073709551615;
 
 // After a step that gave n bytes: what was not taken is offered again, or the answer is settled.
+#[tactic(auto, unfolding(crate::specs::Turns::read_on))]
 pub fn after(stepped: Stepped, n: usize, good: usize, at: usize, end: usize) -> Turn
     ensures { result ≡ read_on stepped n good at end }
 {

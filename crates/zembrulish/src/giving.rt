@@ -6,6 +6,7 @@ use crate::output::{least, put};
 use crate::{input, said};
 use answer::numbers;
 use line::LINE;
+use std::io::{Read, Write};
 use turns::giving::{Going, Turn, after};
 use writing::{Start, Writer};
 
@@ -13,7 +14,7 @@ use writing::{Start, Writer};
 const TURNS: u64 = 4294967296;
 
 // A step over what is left in the buffer, whose digits are written.
-fn step(going: Going, end: usize, buf: &[u8], out: &mut [u8]) -> Turn
+fn step(going: Going, end: usize, stdout: &mut impl Write, buf: &[u8], out: &mut [u8]) -> Turn
     requires { (going.at ≤ end) × (end ≤ length buf.now) }
 {
     let writer = going.writer;
@@ -22,33 +23,39 @@ fn step(going: Going, end: usize, buf: &[u8], out: &mut [u8]) -> Turn
     let told = stepped.told;
     let outcome = told.outcome;
     let n = least(numbers::count(outcome), out.len());
-    if put(n, out) {
+    if put(stdout, n, out) {
         return after(stepped, at, end);
     }
     Turn::Ended
 }
 
 // The end of the source: the last digit and the pads.
-fn close(writer: Writer, out: &mut [u8]) -> Turn {
+fn close(writer: Writer, stdout: &mut impl Write, out: &mut [u8]) -> Turn {
     let finished = writer.finish(out);
     let told = finished.told;
     let outcome = told.outcome;
     let n = least(numbers::count(outcome), out.len());
-    put(n, out);
+    put(stdout, n, out);
     Turn::Ended
 }
 
-fn one_turn(going: Going, buf: &mut [u8], out: &mut [u8]) -> Turn {
+fn one_turn(
+    going: Going,
+    stdin: &mut impl Read,
+    stdout: &mut impl Write,
+    buf: &mut [u8],
+    out: &mut [u8],
+) -> Turn {
     let writer = going.writer;
     let at = going.at;
     let end = least(going.end, buf.len());
     if at < end {
-        return step(going, end, buf, out);
+        return step(going, end, stdout, buf, out);
     }
-    match input::again(buf) {
+    match input::again(stdin, buf) {
         Got::Bytes(n) => {
             if n == 0 {
-                return close(writer, out);
+                return close(writer, stdout, out);
             }
             Turn::On(Going {
                 writer,
@@ -60,11 +67,17 @@ fn one_turn(going: Going, buf: &mut [u8], out: &mut [u8]) -> Turn {
     }
 }
 
-fn drive(start: Going, buf: &mut [u8], out: &mut [u8]) {
+fn drive(
+    start: Going,
+    stdin: &mut impl Read,
+    stdout: &mut impl Write,
+    buf: &mut [u8],
+    out: &mut [u8],
+) {
     let mut going = start;
     let mut turns = TURNS;
     while 0 < turns {
-        match one_turn(going, buf, out) {
+        match one_turn(going, stdin, stdout, buf, out) {
             Turn::On(next) => {
                 going = next;
                 turns = turns - 1;
@@ -77,7 +90,14 @@ fn drive(start: Going, buf: &mut [u8], out: &mut [u8]) {
 }
 
 // The written form of what stands after the first line and is still to come.
-pub(crate) fn encode(alphabet: usize, end: usize, buf: &mut [u8], out: &mut [u8]) {
+pub(crate) fn encode(
+    alphabet: usize,
+    end: usize,
+    stdin: &mut impl Read,
+    stdout: &mut impl Write,
+    buf: &mut [u8],
+    out: &mut [u8],
+) {
     match Writer::start(alphabet) {
         Start::Started(writer) => drive(
             Going {
@@ -85,9 +105,11 @@ pub(crate) fn encode(alphabet: usize, end: usize, buf: &mut [u8], out: &mut [u8]
                 at: LINE,
                 end,
             },
+            stdin,
+            stdout,
             buf,
             out,
         ),
-        Start::Declined(_) => said::choice(),
+        Start::Declined(_) => said::choice(stdout),
     }
 }

@@ -2,8 +2,8 @@
 ghost use Rattle.std.specs.Prelude.{◌≤◌, length};
 
 use crate::output::least;
-use libc::STDIN_FILENO;
 use line::LINE;
+use std::io::Read;
 
 // How many bytes came; none at the end of the input.
 #[derive(Clone, Copy)]
@@ -13,25 +13,24 @@ pub enum Got {
 }
 
 // One read into the buffer from a place on.
-fn more(buf: &mut [u8], at: usize) -> Got
+fn more(stdin: &mut impl Read, buf: &mut [u8], at: usize) -> Got
     requires { at ≤ length buf.old }
 {
-    let got = libc::read(STDIN_FILENO, &mut buf[at..]);
-    if got < 0 {
-        return Got::Failed;
+    match stdin.read(&mut buf[at..]) {
+        Ok(n) => Got::Bytes(n),
+        Err(_) => Got::Failed,
     }
-    Got::Bytes(io::count(got, &buf[at..]))
 }
 
-pub(crate) fn again(buf: &mut [u8]) -> Got {
-    more(buf, 0)
+pub(crate) fn again(stdin: &mut impl Read, buf: &mut [u8]) -> Got {
+    more(stdin, buf, 0)
 }
 
 // Reads until the first line is there, or the input ends: a pipe may hand it over in pieces.
-pub(crate) fn gather(buf: &mut [u8]) -> Got {
+pub(crate) fn gather(stdin: &mut impl Read, buf: &mut [u8]) -> Got {
     let mut n: usize = 0;
     while n < LINE {
-        match more(buf, n) {
+        match more(stdin, buf, n) {
             Got::Bytes(k) => {
                 let came = least(k, buf.len() - n);
                 if came == 0 {

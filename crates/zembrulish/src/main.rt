@@ -9,23 +9,30 @@ mod taking; // taking.rt: J and D, the loop over the streaming reader
 
 use input::Got;
 use line::First;
+use std::io::{Read, Write};
 
 // What the first line asks for, done on the data: those after it among the n bytes in the buffer, and all that are still to come.
-fn obey(n: usize, buf: &mut [u8], out: &mut [u8]) {
+fn obey(n: usize, stdin: &mut impl Read, stdout: &mut impl Write, buf: &mut [u8], out: &mut [u8]) {
     let end = output::least(n, buf.len());
     match line::parse(&buf[..end]) {
-        First::Judge(alphabet, options) => taking::read(false, alphabet, options, end, buf, out),
-        First::Decode(alphabet, options) => taking::read(true, alphabet, options, end, buf, out),
-        First::Encode(alphabet) => giving::encode(alphabet, end, buf, out),
-        First::Other => said::choice(),
+        First::Judge(alphabet, options) => {
+            taking::read(false, alphabet, options, end, stdin, stdout, buf, out)
+        }
+        First::Decode(alphabet, options) => {
+            taking::read(true, alphabet, options, end, stdin, stdout, buf, out)
+        }
+        First::Encode(alphabet) => giving::encode(alphabet, end, stdin, stdout, buf, out),
+        First::Other => said::choice(stdout),
     }
 }
 
-fn main() {
-    let mut buf = io::large_buffer();
-    let mut out = io::large_buffer();
-    match input::gather(&mut buf) {
-        Got::Bytes(n) => obey(n, &mut buf, &mut out),
+fn main(rt: HostRuntime) {
+    let mut stdin = rt.stdin();
+    let mut stdout = rt.stdout();
+    let mut buf = [0u8; 65536];
+    let mut out = [0u8; 65536];
+    match input::gather(&mut stdin, &mut buf) {
+        Got::Bytes(n) => obey(n, &mut stdin, &mut stdout, &mut buf, &mut out),
         Got::Failed => {}
     }
 }

@@ -1,7 +1,7 @@
 // Standard output, written from a lent buffer.
 ghost use Rattle.std.specs.Prelude.{◌≡◌, ◌≤◌, min, length};
 
-use libc::STDOUT_FILENO;
+use std::io::Write;
 
 pub(crate) fn least(x: usize, y: usize) -> usize
     ensures { (result ≡ min x y) × (result ≤ x) × (result ≤ y) }
@@ -10,8 +10,8 @@ pub(crate) fn least(x: usize, y: usize) -> usize
 }
 
 // The first n bytes of the buffer, all written or not.
-pub(crate) fn put(n: usize, out: &[u8]) -> bool
+pub(crate) fn put(stdout: &mut impl Write, n: usize, out: &[u8]) -> bool
     requires { n ≤ length out.now }
 {
-    io::write_all(STDOUT_FILENO, &out[..n])
+    stdout.write_all(&out[..n]).is_ok()
 }

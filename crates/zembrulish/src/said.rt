@@ -1,21 +1,11 @@
 // The line that J prints: answer, position and count in decimal, single spaces, byte 10.
-use libc::STDOUT_FILENO;
+use std::io::Write;
 
-pub(crate) fn line(answer: u32, position: usize, count: usize) {
-    if io::print_decimal(STDOUT_FILENO, answer as u64) {
-        if io::write_all(STDOUT_FILENO, b" ") {
-            if io::print_decimal(STDOUT_FILENO, position as u64) {
-                if io::write_all(STDOUT_FILENO, b" ") {
-                    if io::print_decimal(STDOUT_FILENO, count as u64) {
-                        io::write_all(STDOUT_FILENO, b"\n");
-                    }
-                }
-            }
-        }
-    }
+pub(crate) fn line(stdout: &mut impl Write, answer: u32, position: usize, count: usize) {
+    let _ = writeln!(stdout, "{answer} {position} {count}");
 }
 
 // The answer to a first line that asks for nothing, or whose choice is answer 1.
-pub(crate) fn choice() {
-    io::write_all(STDOUT_FILENO, b"1 0 0\n");
+pub(crate) fn choice(stdout: &mut impl Write) {
+    let _ = stdout.write_all(b"1 0 0\n");
 }

@@ -6,6 +6,7 @@ use crate::output::{least, put};
 use crate::{input, said};
 use answer::numbers;
 use line::LINE;
+use std::io::{Read, Write};
 use stream::reader::{Reader, Start};
 use turns::taking::{Going, Turn, after};
 
@@ -13,7 +14,14 @@ use turns::taking::{Going, Turn, after};
 const TURNS: u64 = 4294967296;
 
 // A step over what is left in the buffer; D writes the good bytes that it gives.
-fn step(going: Going, end: usize, writes: bool, buf: &[u8], out: &mut [u8]) -> Turn
+fn step(
+    going: Going,
+    end: usize,
+    writes: bool,
+    stdout: &mut impl Write,
+    buf: &[u8],
+    out: &mut [u8],
+) -> Turn
     requires { (going.at ≤ end) × (end ≤ length buf.now) }
 {
     let reader = going.reader;
@@ -24,7 +32,7 @@ fn step(going: Going, end: usize, writes: bool, buf: &[u8], out: &mut [u8]) -> T
     let outcome = told.outcome;
     let n = least(numbers::count(outcome), out.len());
     if writes {
-        if put(n, out) {
+        if put(stdout, n, out) {
             return after(stepped, n, good, at, end);
         }
         return Turn::Failed;
@@ -33,10 +41,10 @@ fn step(going: Going, end: usize, writes: bool, buf: &[u8], out: &mut [u8]) -> T
 }
 
 // A read, or the end of the text.
-fn refill(going: Going, buf: &mut [u8]) -> Turn {
+fn refill(going: Going, stdin: &mut impl Read, buf: &mut [u8]) -> Turn {
     let reader = going.reader;
     let good = going.good;
-    match input::again(buf) {
+    match input::again(stdin, buf) {
         Got::Bytes(n) => {
             if n == 0 {
                 let finished = reader.finish();
@@ -55,20 +63,34 @@ fn refill(going: Going, buf: &mut [u8]) -> Turn {
     }
 }
 
-fn one_turn(going: Going, writes: bool, buf: &mut [u8], out: &mut [u8]) -> Turn {
+fn one_turn(
+    going: Going,
+    writes: bool,
+    stdin: &mut impl Read,
+    stdout: &mut impl Write,
+    buf: &mut [u8],
+    out: &mut [u8],
+) -> Turn {
     let at = going.at;
     let end = least(going.end, buf.len());
     if at < end {
-        return step(going, end, writes, buf, out);
+        return step(going, end, writes, stdout, buf, out);
     }
-    refill(going, buf)
+    refill(going, stdin, buf)
 }
 
-fn drive(start: Going, writes: bool, buf: &mut [u8], out: &mut [u8]) -> Turn {
+fn drive(
+    start: Going,
+    writes: bool,
+    stdin: &mut impl Read,
+    stdout: &mut impl Write,
+    buf: &mut [u8],
+    out: &mut [u8],
+) -> Turn {
     let mut going = start;
     let mut turns = TURNS;
     while 0 < turns {
-        match one_turn(going, writes, buf, out) {
+        match one_turn(going, writes, stdin, stdout, buf, out) {
             Turn::On(next) => {
                 going = next;
                 turns = turns - 1;
@@ -85,9 +107,10 @@ fn drive(start: Going, writes: bool, buf: &mut [u8], out: &mut [u8]) -> Turn {
 }
 
 // J tells a settled answer; a failed read or write leaves nothing to tell.
-fn tell(turn: Turn) {
+fn tell(turn: Turn, stdout: &mut impl Write) {
     match turn {
         Turn::Settled(outcome, good) => said::line(
+            stdout,
             numbers::answer(outcome),
             numbers::position(outcome),
             good,
@@ -103,6 +126,8 @@ pub(crate) fn read(
     alphabet: usize,
     options: usize,
     end: usize,
+    stdin: &mut impl Read,
+    stdout: &mut impl Write,
     buf: &mut [u8],
     out: &mut [u8],
 ) {
@@ -114,11 +139,11 @@ pub(crate) fn read(
                 at: LINE,
                 end,
             };
-            let turn = drive(start, writes, buf, out);
+            let turn = drive(start, writes, stdin, stdout, buf, out);
             if !writes {
-                tell(turn);
+                tell(turn, stdout);
             }
         }
-        Start::Declined(_) => said::choice(),
+        Start::Declined(_) => said::choice(stdout),
     }
 }

@@ -100,7 +100,7 @@ impl Drop for Room {
 }
 
 pub fn rows() -> std::io::Result<Vec<Row>> {
-    let ours = Path::new(env!("CARGO_MANIFEST_DIR")).join("../target/bin/zembrulish");
+    let ours = Path::new(env!("CARGO_MANIFEST_DIR")).join("../crates/zembrulish/out/zembrulish");
     let (basenc, cat) = (Path::new("basenc"), Path::new("cat"));
     let has_basenc = Command::new(basenc).arg("--version").stdout(Stdio::null()).stderr(Stdio::null()).status().is_ok();
     let room = Room(std::env::temp_dir().join(format!("zembrulish-bench-{}", std::process::id())));
