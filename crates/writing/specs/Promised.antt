@@ -4,7 +4,6 @@ use Rattle.answer.specs.declared.Kind.TheVariants as K
 use Rattle.answer.specs.declared.Outcome.{Outcome}
 use Rattle.answer.specs.declared.Outcome.TheVariants as O
 use Rattle.answer.specs.Told.{told}
-use Rattle.alphabet.specs.Written.{written}
 use Rattle.spelling.specs.Front.{ending}
 use Rattle.spelling.specs.Machine.{Run}
 use Rattle.writing.specs.Stream.{at, count, Turn, close, step_of, finish_of}

@@ -9,7 +9,7 @@ use Rattle.rule.proofs.state.ready.Goals as goal
 
 pub small-requires : goal.small-requires
 small-requires c =
-    (allowed_alphabet _ _ (sym c.allowed.ensures ∙ c.if-allowed.true), omega (arith, c.limit.ensures, c.if-digits-taken.true, c.if-taken-limit.true))
+    record { alphabet_bound = allowed_alphabet _ _ (sym c.allowed.ensures ∙ c.if-allowed.true); digits_bound = omega (arith, c.limit.ensures, c.if-digits-taken.true, c.if-taken-limit.true) }
 
 pub returns-then-pads-taken : goal.returns-then-pads-taken
 unfolding ready
