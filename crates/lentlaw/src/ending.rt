@@ -3,45 +3,44 @@ ghost use Rattle.std.specs.Prelude.{ℕ, List};
 
 use crate::Two;
 
-pub trait Write: Copy {
-    type Made: Two<State = Self>;
+// A finish that takes the state by value. `asked` is what it requires, `may` what holds of the state, the buffer at entry, the result and the buffer
+// at exit.
+pub trait Write: Two {
+    ghost asked: { Self.State → List ℕ → Type 0 };
 
-    ghost asked: { Self → List ℕ → Type 0 };
+    ghost may: { Self.State → List ℕ → Self.Both → List ℕ → Type 0 };
 
-    ghost may: { Self → List ℕ → Self.Made → List ℕ → Type 0 };
-
-    fn write(self, out: &mut [u8]) -> Self::Made
-        requires { asked self out.old }
-        ensures { may self out.old result out.new };
+    fn write(was: Self::State, out: &mut [u8]) -> Self::Both
+        requires { asked was out.old }
+        ensures { may was out.old result out.new };
 }
 
-pub trait WriteIn: Copy {
-    type Made: Two<State = Self>;
+// A finish that is lent the state.
+pub trait WriteIn: Two {
+    ghost asked: { Self.State → List ℕ → Type 0 };
 
-    ghost asked: { Self → List ℕ → Type 0 };
+    ghost may: { Self.State → List ℕ → Self.Both → List ℕ → Type 0 };
 
-    ghost may: { Self → List ℕ → Self.Made → List ℕ → Type 0 };
-
-    fn write_in(&mut self, out: &mut [u8]) -> <Self::Made as Two>::Told
-        requires { asked self.old out.old }
-        ensures { may self.old out.old (Self.Made.both self.new result) out.new };
+    fn write_in(state: &mut Self::State, out: &mut [u8]) -> Self::Told
+        requires { asked state.old out.old }
+        ensures { may state.old out.old (Self.both state.new result) out.new };
 }
 
-pub fn write_lent<S: Write>(state: &mut S, out: &mut [u8]) -> <S::Made as Two>::Told
-    requires { S.asked state.old out.old }
-    ensures { S.may state.old out.old (S.Made.both state.new result) out.new }
+pub fn write_lent<F: Write>(state: &mut F::State, out: &mut [u8]) -> F::Told
+    requires { F.asked state.old out.old }
+    ensures { F.may state.old out.old (F.both state.new result) out.new }
 {
     let was = *state;
-    let made = was.write(out);
-    *state = made.state();
-    made.told()
+    let made = F::write(was, out);
+    *state = F::state(made);
+    F::told(made)
 }
 
-pub fn write_through<S: WriteIn>(was: S, out: &mut [u8]) -> S::Made
-    requires { S.asked was out.old }
-    ensures { S.may was out.old result out.new }
+pub fn write_through<F: WriteIn>(was: F::State, out: &mut [u8]) -> F::Both
+    requires { F.asked was out.old }
+    ensures { F.may was out.old result out.new }
 {
     let mut state = was;
-    let told = state.write_in(out);
-    S::Made::both(state, told)
+    let told = F::write_in(&mut state, out);
+    F::both(state, told)
 }

@@ -1,45 +1,43 @@
 // The law of a finish that writes nothing.
 use crate::Two;
 
-pub trait Finish: Copy {
-    type Made: Two<State = Self>;
+// A finish that takes the state by value.
+pub trait Finish: Two {
+    ghost asked: { Self.State → Type 0 };
 
-    ghost asked: { Self → Type 0 };
+    ghost may: { Self.State → Self.Both → Type 0 };
 
-    ghost may: { Self → Self.Made → Type 0 };
-
-    fn finish(self) -> Self::Made
-        requires { asked self }
-        ensures { may self result };
+    fn finish(was: Self::State) -> Self::Both
+        requires { asked was }
+        ensures { may was result };
 }
 
-pub trait FinishIn: Copy {
-    type Made: Two<State = Self>;
+// A finish that is lent the state.
+pub trait FinishIn: Two {
+    ghost asked: { Self.State → Type 0 };
 
-    ghost asked: { Self → Type 0 };
+    ghost may: { Self.State → Self.Both → Type 0 };
 
-    ghost may: { Self → Self.Made → Type 0 };
-
-    fn finish_in(&mut self) -> <Self::Made as Two>::Told
-        requires { asked self.old }
-        ensures { may self.old (Self.Made.both self.new result) };
+    fn finish_in(state: &mut Self::State) -> Self::Told
+        requires { asked state.old }
+        ensures { may state.old (Self.both state.new result) };
 }
 
-pub fn finish_lent<S: Finish>(state: &mut S) -> <S::Made as Two>::Told
-    requires { S.asked state.old }
-    ensures { S.may state.old (S.Made.both state.new result) }
+pub fn finish_lent<F: Finish>(state: &mut F::State) -> F::Told
+    requires { F.asked state.old }
+    ensures { F.may state.old (F.both state.new result) }
 {
     let was = *state;
-    let made = was.finish();
-    *state = made.state();
-    made.told()
+    let made = F::finish(was);
+    *state = F::state(made);
+    F::told(made)
 }
 
-pub fn finish_through<S: FinishIn>(was: S) -> S::Made
-    requires { S.asked was }
-    ensures { S.may was result }
+pub fn finish_through<F: FinishIn>(was: F::State) -> F::Both
+    requires { F.asked was }
+    ensures { F.may was result }
 {
     let mut state = was;
-    let told = state.finish_in();
-    S::Made::both(state, told)
+    let told = F::finish_in(&mut state);
+    F::both(state, told)
 }

@@ -3,11 +3,11 @@
 // put together. The other way is here too: what holds of a lent form holds of the state by value through it.
 #![tactic(auto)]
 
-pub mod delay; // delay.rt: a stream that the law is used on
+mod delay; // delay.rt: a stream that the law is used on
 pub mod ending; // ending.rt: a finish that writes
 pub mod finishing; // finishing.rt: a finish
 pub mod stepping; // stepping.rt: a step
-pub mod two; // two.rt: the struct of a state and what is told
+pub mod two; // two.rt: a state, what is told and the struct of the two
 
 pub use ending::{Write, WriteIn, write_lent, write_through};
 pub use finishing::{Finish, FinishIn, finish_lent, finish_through};

@@ -1,27 +1,29 @@
-// A state, what is told of it, and the struct of the two: what the law of the lent form goes by, for any state.
+// What the law of the lent form goes by, for any state.
 ghost use Rattle.std.specs.Prelude.{◌≡◌};
 
-// The struct of a state and what is told of it, which a function returns that takes the state by value.
-pub trait Two: Copy {
-    type State;
+// A state, what is told of it, and the struct of the two that a function returns which takes the state by value. The type that has them only names them.
+pub trait Two {
+    type State: Copy;
 
     type Told;
 
-    ghost state: { Self → Self.State };
+    type Both: Copy;
 
-    ghost told: { Self → Self.Told };
+    ghost state: { Self.Both → Self.State };
 
-    ghost both: { Self.State → Self.Told → Self };
+    ghost told: { Self.Both → Self.Told };
 
-    fn state(self) -> Self::State
-        ensures { result ≡ state self };
+    ghost both: { Self.State → Self.Told → Self.Both };
 
-    fn told(self) -> Self::Told
-        ensures { result ≡ told self };
+    fn state(x: Self::Both) -> Self::State
+        ensures { result ≡ state x };
 
-    fn both(s: Self::State, t: Self::Told) -> Self
+    fn told(x: Self::Both) -> Self::Told
+        ensures { result ≡ told x };
+
+    fn both(s: Self::State, t: Self::Told) -> Self::Both
         ensures { result ≡ both s t };
 
     // A struct is its two, put together.
-    ghost again: { (x : Self) → both (state x) (told x) ≡ x };
+    ghost again: { (x : Self.Both) → both (state x) (told x) ≡ x };
 }
