@@ -1,4 +1,2 @@
-pub mod Readers
-pub mod Writers
 pub mod LentDriving
 pub mod Determined

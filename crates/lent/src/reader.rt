@@ -5,8 +5,8 @@ ghost use Rattle.stream.specs.Stepped.{stepped, written, finished};
 use stream::reader::{Reader, Stepped, Told};
 
 pub fn step_in(state: &mut Reader, piece: &[u8], out: &mut [u8]) -> Told
-    ensures { (record { state = state.exit.now; told = result } ≡ stepped state.entry.now piece.now out.old)
-        × (out.new ≡ written state.entry.now piece.now out.old) }
+    ensures { (record { state = state.new; told = result } ≡ stepped state.old piece.now out.old)
+        × (out.new ≡ written state.old piece.now out.old) }
 {
     let was = *state;
     let made = was.step(piece, out);
@@ -15,7 +15,7 @@ pub fn step_in(state: &mut Reader, piece: &[u8], out: &mut [u8]) -> Told
 }
 
 pub fn finish_in(state: &mut Reader) -> Told
-    ensures { record { state = state.exit.now; told = result } ≡ finished state.entry.now }
+    ensures { record { state = state.new; told = result } ≡ finished state.old }
 {
     let was = *state;
     let made = was.finish();

@@ -4,7 +4,7 @@ ghost use Rattle.writing.specs.Promised.{SteppedAs, FinishedAs};
 use writing::{Stepped, Told, Writer};
 
 pub fn step_in(state: &mut Writer, piece: &[u8], out: &mut [u8]) -> Told
-    ensures { SteppedAs state.entry.now piece.now out.old out.new (record { state = state.exit.now; told = result }) }
+    ensures { SteppedAs state.old piece.now out.old out.new (record { state = state.new; told = result }) }
 {
     let was = *state;
     let made = was.step(piece, out);
@@ -14,7 +14,7 @@ pub fn step_in(state: &mut Writer, piece: &[u8], out: &mut [u8]) -> Told
 
 // A writer's finish writes.
 pub fn finish_in(state: &mut Writer, out: &mut [u8]) -> Told
-    ensures { FinishedAs state.entry.now out.old out.new (record { state = state.exit.now; told = result }) }
+    ensures { FinishedAs state.old out.old out.new (record { state = state.new; told = result }) }
 {
     let was = *state;
     let made = was.finish(out);
