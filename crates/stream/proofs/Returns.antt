@@ -33,7 +33,7 @@ use Rattle.stream.specs.declared.reader.Reader.{Reader}
 use Rattle.stream.specs.declared.reader.Stepped.{Stepped}
 use Rattle.stream.specs.declared.reader.Start.TheVariants as B
 use Rattle.streaming.specs.Stream.{live, start_of}
-use Rattle.streaming.specs.Given.{given, readable}
+use Rattle.streaming.specs.Given.{given}
 use Rattle.streaming.specs.Calls.{Called, unmoved, why_status, why_answer, ran, step_of, end_status, closes}
 use Rattle.streaming.specs.Promises.{Sticks}
 use Rattle.states.specs.Status.{status_of}

@@ -6,7 +6,6 @@ use Rattle.alphabet.specs.Written.{wanting}
 use Rattle.reading.specs.Options.{allowed}
 use Rattle.reading.specs.Cleaning.{kept, turned, clean}
 use Rattle.tidier.specs.declared.Own.{Own}
-use Rattle.tidier.specs.declared.Own.TheVariants as Own
 
 -- the digits among the bytes
 unfoldable pub digits_among : ℕ → List ℕ → List ℕ

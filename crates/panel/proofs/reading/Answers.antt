@@ -1,11 +1,10 @@
 -- `reading`: the judge's count is asked of the room. Assumes nothing.
 -- the count is the judge's
-use mathlib.Core.Path.{◌≡◌, sym, ap, ◌∙◌}
+use mathlib.Core.Path.{sym, ap, ◌∙◌}
 use Rattle.answer.specs.Told.{Told}
 use Rattle.answer.proofs.ToldCases.{told_room}
-use Rattle.block.specs.Whole.{no_room, judge_of}
+use Rattle.block.specs.Whole.{no_room}
 use Rattle.block.proofs.RoomByJudge.{read_past_room, read_in_room}
-use borrow.Author.Rules.{rules}
 use Rattle.panel.proofs.reading.Goals as goal
 
 pub returns-then-room-good : goal.returns-then-room-good

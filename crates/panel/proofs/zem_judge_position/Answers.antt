@@ -1,5 +1,4 @@
 -- `zem_judge_position`: the judge's answer as a number. Assumes nothing.
-use borrow.Author.Rules.{rules}
 use Rattle.panel.proofs.zem_judge_position.Goals as goal
 
 pub returns : goal.returns

@@ -1,5 +1,4 @@
 -- `zem_read`: the reader's answer as a number, and its buffer. Assumes nothing.
-use borrow.Author.Rules.{rules}
 use Rattle.panel.proofs.zem_read.Goals as goal
 
 pub returns : goal.returns

@@ -1,5 +1,4 @@
 -- `zem_read_position`: what the reader answers with so much room, as a number. Assumes nothing.
-use borrow.Author.Rules.{rules}
 use Rattle.panel.proofs.zem_read_position.Goals as goal
 
 pub returns : goal.returns

@@ -1,5 +1,4 @@
 -- `zem_write_count`: what the writer answers with so much room, as a number. Assumes nothing.
-use borrow.Author.Rules.{rules}
 use Rattle.panel.proofs.zem_write_count.Goals as goal
 
 pub returns : goal.returns

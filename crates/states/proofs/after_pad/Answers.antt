@@ -1,7 +1,6 @@
 -- `after_pad`: the limit, and then the pads. Assumes nothing.
 use borrow.Author.Tests.{lt-ltb, le-ltb}
 use Rattle.streaming.specs.Given.{refusable}
-use borrow.Author.Rules.{rules}
 use Rattle.states.proofs.after_pad.Goals as goal
 
 pub returns-then-taken-limit : goal.returns-then-taken-limit

@@ -2,7 +2,6 @@
 use borrow.Author.Tests.{le-leb, lt-leb}
 use Rattle.streaming.specs.Given.{counts_fit}
 use Rattle.states.proofs.Tests.{rest_is, rest_none, rest_less, rest_more, lines_by, blank_by}
-use borrow.Author.Rules.{rules}
 use Rattle.states.proofs.counts_fit.Goals as goal
 
 pub returns-then-limit-taken : goal.returns-then-limit-taken

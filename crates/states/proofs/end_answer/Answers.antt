@@ -1,7 +1,6 @@
 -- `end_answer`: the engine's end by its number. Assumes nothing.
 use mathlib.Core.Path.{sym, ap, ◌∙◌}
 use Rattle.rule.specs.Meaning.{end_of}
-use borrow.Author.Rules.{rules}
 use Rattle.states.proofs.end_answer.Goals as goal
 
 pub returns-in-Whole : goal.returns-in-Whole

@@ -1,7 +1,6 @@
 -- `given`: the state and then the status. Assumes nothing.
 use mathlib.Core.Path.{sym, ◌∙◌}
 use Rattle.streaming.specs.Given.{given}
-use borrow.Author.Rules.{rules}
 use Rattle.states.proofs.given.Goals as goal
 
 pub returns-then-readable : goal.returns-then-readable

@@ -1,7 +1,6 @@
 -- `number_of`: by the cause. Assumes nothing.
 use mathlib.Core.Path.{sym}
 use Rattle.rule.proofs.Causes.{long_number, foreign_number, pad_number, spare_number, after_number, short_number}
-use borrow.Author.Rules.{rules}
 use Rattle.states.proofs.number_of.Goals as goal
 
 pub returns-in-TooLong : goal.returns-in-TooLong

@@ -3,7 +3,6 @@ use mathlib.Core.Path.{sym, ◌∙◌}
 use borrow.Author.Tests.{lt-ltb, le-ltb, eq-eqb, ne_eqb}
 use Rattle.engine.proofs.States.{wants_is}
 use Rattle.streaming.specs.Given.{refusable}
-use borrow.Author.Rules.{rules}
 use Rattle.states.proofs.pad_misplaced.Goals as goal
 
 pub returns-then-pads-eq0 : goal.returns-then-pads-eq0

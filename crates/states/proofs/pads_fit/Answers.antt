@@ -2,7 +2,6 @@
 use borrow.Author.Tests.{le-leb, lt-leb, eq-eqb, ne_eqb}
 use Rattle.engine.proofs.States.{wants_is}
 use Rattle.streaming.specs.Given.{pads_fit}
-use borrow.Author.Rules.{rules}
 use Rattle.states.proofs.pads_fit.Goals as goal
 
 pub returns-then-wants-pads : goal.returns-then-wants-pads

@@ -1,7 +1,6 @@
 -- `readable`: a ready state whose counts and pads fit. Assumes nothing.
 use mathlib.Core.Path.{sym, ◌∙◌}
 use Rattle.states.proofs.Tests.{unready, ready_readable}
-use borrow.Author.Rules.{rules}
 use Rattle.states.proofs.readable.Goals as goal
 
 pub returns-then-counts_fit : goal.returns-then-counts_fit

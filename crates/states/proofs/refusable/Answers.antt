@@ -1,7 +1,6 @@
 -- `refusable`: by the cause. Assumes nothing.
 use Rattle.rule.proofs.Causes.{long_number, foreign_number, pad_number, spare_number, after_number, short_number}
 use Rattle.streaming.specs.Given.{refusable}
-use borrow.Author.Rules.{rules}
 use Rattle.states.proofs.refusable.Goals as goal
 
 pub returns-in-TooLong : goal.returns-in-TooLong

@@ -4,7 +4,6 @@ use borrow.Author.Tests.{eq-eqb, ne_eqb}
 use Rattle.engine.proofs.States.{wants_is}
 use Rattle.streaming.specs.Given.{spare_left}
 use Rattle.states.proofs.Tests.{some_is, none_is}
-use borrow.Author.Rules.{rules}
 use Rattle.states.proofs.spare_left.Goals as goal
 
 pub returns-then-pads-gt0 : goal.returns-then-pads-gt0

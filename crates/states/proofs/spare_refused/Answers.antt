@@ -2,7 +2,6 @@
 use mathlib.Core.Path.{sym, ◌∙◌}
 use borrow.Author.Tests.{lt-ltb, le-ltb}
 use Rattle.streaming.specs.Given.{refusable}
-use borrow.Author.Rules.{rules}
 use Rattle.states.proofs.spare_refused.Goals as goal
 
 pub returns-then-taken-limit : goal.returns-then-taken-limit

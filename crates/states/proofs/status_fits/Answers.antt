@@ -1,7 +1,6 @@
 -- `status_fits`: by the status. Assumes nothing.
 use Rattle.streaming.specs.Given.{status_fits}
 use Rattle.states.specs.Status.{status_of}
-use borrow.Author.Rules.{rules}
 use Rattle.states.proofs.status_fits.Goals as goal
 
 pub returns-in-Open : goal.returns-in-Open

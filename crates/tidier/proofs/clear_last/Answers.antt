@@ -2,7 +2,6 @@
 use Prim.Native.Nat.{◌-◌}
 use mathlib.Core.Path.{sym, ◌∙◌}
 use native.Mathlib.Omega.{arith}
-use borrow.Author.Rules.{rules}
 use Rattle.engine.proofs.Bytes.{told}
 use Rattle.tidier.proofs.SpellingSteps.{none_held, last_in, last_no_pad, last_no_other, held_low, last_cleared}
 use Rattle.tidier.proofs.clear_last.Goals as goal

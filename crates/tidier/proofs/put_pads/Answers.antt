@@ -1,9 +1,6 @@
 -- `put_pads`: after each turn one pad more stands in its place. Assumes nothing.
-use Prim.Native.Nat.{◌-◌, ◌≤◌}
 use native.Mathlib.Omega.{arith}
-use lib.ListN.{length}
-use borrow.Author.Rules.{rules}
-use Rattle.tidier.proofs.PadSteps.{Padding, padding_begins, padding_same, padding_more, padding_ends}
+use Rattle.tidier.proofs.PadSteps.{padding_begins, padding_same, padding_more, padding_ends}
 use Rattle.tidier.proofs.put_pads.Goals as goal
 
 pub loop-i-init : goal.loop-i-init

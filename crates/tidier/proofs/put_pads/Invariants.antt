@@ -1,8 +1,6 @@
 use Prim.Native.Nat.{◌-◌, ◌≤◌}
-use native.Mathlib.Omega.{arith}
 use lib.ListN.{length}
-use borrow.Author.Rules.{rules}
-use Rattle.tidier.proofs.PadSteps.{Padding, padding_begins, padding_same, padding_more, padding_ends}
+use Rattle.tidier.proofs.PadSteps.{Padding}
 use Rattle.tidier.proofs.put_pads.Given as goal
 
 abbrev pub invariant-loop-i : goal.invariant-loop-i

@@ -1,13 +1,11 @@
 -- `spell`: each turn writes the digit that its byte is, or nothing. Assumes nothing.
-use Prim.Native.Nat.{◌-◌}
 use mathlib.Core.Path.{sym, ap, ◌∙◌}
 use native.Mathlib.Omega.{arith}
-use lib.ListN.{length, get_or}
-use borrow.Author.Rules.{rules}
+use lib.ListN.{get_or}
 use Rattle.reading.proofs.OptionLaws.{allowed_alphabet}
 use Rattle.engine.proofs.Bytes.{told}
 use Rattle.tidier.specs.Spelling.{own_text}
-use Rattle.tidier.proofs.SpellingSteps.{Spelling, spelling_begins, spelling_room, spelling_puts, spelling_skips, spelling_same, spelling_ends, digit_spelt}
+use Rattle.tidier.proofs.SpellingSteps.{spelling_begins, spelling_room, spelling_puts, spelling_skips, spelling_same, spelling_ends, digit_spelt}
 use Rattle.tidier.proofs.spell.Goals as goal
 
 pub loop-i-init : goal.loop-i-init

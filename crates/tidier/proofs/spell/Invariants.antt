@@ -1,12 +1,6 @@
 use Prim.Native.Nat.{◌-◌}
-use mathlib.Core.Path.{sym, ap, ◌∙◌}
-use native.Mathlib.Omega.{arith}
-use lib.ListN.{length, get_or}
-use borrow.Author.Rules.{rules}
-use Rattle.reading.proofs.OptionLaws.{allowed_alphabet}
-use Rattle.engine.proofs.Bytes.{told}
-use Rattle.tidier.specs.Spelling.{own_text}
-use Rattle.tidier.proofs.SpellingSteps.{Spelling, spelling_begins, spelling_room, spelling_puts, spelling_skips, spelling_same, spelling_ends, digit_spelt}
+use lib.ListN.{length}
+use Rattle.tidier.proofs.SpellingSteps.{Spelling}
 use Rattle.tidier.proofs.spell.Given as goal
 
 abbrev pub invariant-loop-i : goal.invariant-loop-i

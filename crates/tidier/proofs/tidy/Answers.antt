@@ -1,7 +1,6 @@
 -- `tidy`: the judge's refusal, then the room, then the cleaned text. Assumes nothing.
 use native.Mathlib.Omega.{arith}
 use Rattle.tidier.proofs.TidierReturns.{accepts, known, spells, need_is, need_small, refused, lacking, tidied}
-use borrow.Author.Rules.{rules}
 use Rattle.tidier.proofs.tidy.Goals as goal
 
 pub wanting-requires : goal.wanting-requires

@@ -3,7 +3,6 @@ use native.Mathlib.Nat.{mod-lt}
 use native.Mathlib.Omega.{arith}
 use Rattle.alphabet.proofs.AlphabetLaws.{group_pos}
 use Rattle.alphabet.proofs.WrittenLaws.{wanting_counted}
-use borrow.Author.Rules.{rules}
 use Rattle.tidier.proofs.wanting.Goals as goal
 
 pub nonzero_rem-result : goal.nonzero_rem-result

@@ -1,7 +1,6 @@
 -- `write_clean`: the digits, the last one cleared, and the pads. Assumes nothing.
 use Rattle.reading.proofs.OptionLaws.{allowed_alphabet}
 use Rattle.tidier.proofs.CleanWritten.{digits_fit, clears, pads_fit, written_clean}
-use borrow.Author.Rules.{rules}
 use Rattle.tidier.proofs.write_clean.Goals as goal
 
 pub spell-n-requires : goal.spell-n-requires

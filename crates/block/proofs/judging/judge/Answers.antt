@@ -2,7 +2,6 @@
 use mathlib.Core.Path.{ap, ◌∙◌}
 use Rattle.block.specs.Answered.{answered}
 use Rattle.block.proofs.Answers.{promised_of, count_answers}
-use borrow.Author.Rules.{rules}
 use Rattle.block.proofs.judging.judge.Goals as goal
 
 pub returns : goal.returns

@@ -2,7 +2,6 @@
 use Rattle.answer.specs.Told.{number, position, told}
 use Rattle.rule.proofs.Causes.{kind_number, kind_position}
 use Rattle.block.specs.Answered.{answered_by}
-use borrow.Author.Rules.{rules}
 use Rattle.block.proofs.judging.outcome.Goals as goal
 
 pub returns-in-Whole : goal.returns-in-Whole

@@ -3,7 +3,6 @@ use native.Mathlib.Omega.{arith}
 use borrow.Author.Tests.{lt-ltb, le-ltb}
 use Rattle.rule.proofs.Readiness.{small_product}
 use Rattle.block.specs.Room.{most_of}
-use borrow.Author.Rules.{rules}
 use Rattle.block.proofs.reader.most.Goals as goal
 
 pub overflow_mul-result : goal.overflow_mul-result

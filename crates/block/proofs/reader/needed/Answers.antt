@@ -5,7 +5,6 @@ use Rattle.reading.proofs.OptionLaws.{allowed_alphabet}
 use Rattle.engine.specs.declared.piece.Ran.{Ran}
 use Rattle.block.specs.Room.{needed_of}
 use Rattle.block.proofs.RoomLaws.{counted}
-use borrow.Author.Rules.{rules}
 use Rattle.block.proofs.reader.needed.Goals as goal
 
 pub most-requires : goal.most-requires

@@ -1,7 +1,6 @@
 -- `reader::read`: the choice, then the room, then the run. Assumes nothing.
 use mathlib.Core.Path.{sym, ◌∙◌}
 use Rattle.block.proofs.ReaderReturns.{declined, lacking, read_through}
-use borrow.Author.Rules.{rules}
 use Rattle.block.proofs.reader.read.Goals as goal
 
 pub needed-need-requires : goal.needed-need-requires

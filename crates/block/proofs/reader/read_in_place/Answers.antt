@@ -1,6 +1,5 @@
 -- `reader::read_in_place`: the run in place stands for the verdict. Assumes nothing.
 use Rattle.block.proofs.ReaderReturns.{placed}
-use borrow.Author.Rules.{rules}
 use Rattle.block.proofs.reader.read_in_place.Goals as goal
 
 pub returns : goal.returns

@@ -3,12 +3,11 @@
 -- the byte that was read, and the value that the table gives
 -- the byte is a digit
 -- ---- the needs
-use Prim.Native.Nat.{ℕ, ◌+◌, ◌*◌, ◌%◌, ◌<◌, ◌≤◌}
+use Prim.Native.Nat.{ℕ, ◌+◌, ◌*◌, ◌%◌, ◌<◌, ◌≤◌, ◌^◌}
 use mathlib.Core.Path.{refl, ap}
 use native.Mathlib.Omega.{arith}
-use lib.ListN.{length, get_or}
+use lib.ListN.{get_or}
 use Rattle.alphabet.proofs.AlphabetLaws.{bits_high}
-use Rattle.engine.specs.Ran.{Ready}
 use Rattle.rule.proofs.Readiness.{small_product}
 use Rattle.engine.proofs.Plain.{digits_below, plain_fit, plain_begins, plain_few, plain_size, plain_fits, plain_sums}
 use Rattle.engine.proofs.Plain.{plain_passes, byte_small, plain_joins, plain_holds, plain_gives}
@@ -30,87 +29,109 @@ pub overflow_cast-at : goal.overflow_cast-at
 overflow_cast-at c = omega (arith, c.type_inv.piece c.loop-i.i)
 
 pub overflow_add-at : goal.overflow_add-at
-overflow_add-at c = omega (arith, c.type_inv.piece c.loop-i.i, (let it : c.args.alphabet < 6 = c.requires.alphabet_bound in it))
+overflow_add-at c = omega (arith, c.type_inv.piece c.loop-i.i, c.requires.alphabet_bound)
 
 pub bounds-t-at : goal.bounds-t-at
-bounds-t-at c = omega (arith, c.type_inv.piece c.loop-i.i, (let it : c.args.alphabet < 6 = c.requires.alphabet_bound in it))
+bounds-t-at c = omega (arith, c.type_inv.piece c.loop-i.i, c.requires.alphabet_bound)
 
 pub after-requires : goal.after-requires
-after-requires c = record { r_bound = plain_few ((let it : c.args.alphabet < 6 = c.requires.alphabet_bound in it)) c.loop-i.invariant; took_bound = (plain_sums ((let it : c.args.alphabet < 6 = c.requires.alphabet_bound in it)) c.loop-i.invariant c.requires.ready).0; took_bound_2 = (plain_sums ((let it : c.args.alphabet < 6 = c.requires.alphabet_bound in it)) c.loop-i.invariant c.requires.ready).1 }
+after-requires c =
+    let fits : (c.args.k.digits + c.loop-i.i < 2 ^ 40) × (c.args.k.taken + c.loop-i.i < 2 ^ 40) =
+    plain_sums c.requires.alphabet_bound c.loop-i.invariant c.requires.ready in
+    record { r_bound = plain_few c.requires.alphabet_bound c.loop-i.invariant; took_bound = fits.0; took_bound_2 = fits.1 }
 
 pub shape_of-out-then-v : goal.shape_of-out-then-v
-shape_of-out-then-v c = plain_size ((let it : c.args.alphabet < 6 = c.requires.alphabet_bound in it)) c.loop-i.invariant
+shape_of-out-then-v c = plain_size c.requires.alphabet_bound c.loop-i.invariant
 
 pub returns-then-v : goal.returns-then-v
-returns-then-v c = plain_passes ((let it : c.args.alphabet < 6 = c.requires.alphabet_bound in it)) c.loop-i.invariant c.after.ensures
+returns-then-v c = plain_passes c.requires.alphabet_bound c.loop-i.invariant c.after.ensures
 
 pub overflow_cast-z : goal.overflow_cast-z
 overflow_cast-z c = omega (arith, c.loop-i.invariant.byte)
 
 pub overflow_shl-z : goal.overflow_shl-z
-overflow_shl-z c = omega (arith, (let it : c.args.b ≤ 6 = rw c.requires.b_value (bits_high _ ((let it : c.args.alphabet < 6 = c.requires.alphabet_bound in it))) in it))
+overflow_shl-z c =
+    let wide : c.args.b ≤ 6 = rw c.requires.b_value (bits_high _ c.requires.alphabet_bound) in
+    omega (arith, wide)
 
 pub overflow_cast-z-in-loop-i : goal.overflow_cast-z-in-loop-i
-overflow_cast-z-in-loop-i c = omega (arith, (let it : (get_or c.args.t.now (c.args.alphabet * 256 + (get_or c.args.piece.now c.loop-i.i 0)) 0) < 256 = byte_small ((let it : c.args.alphabet < 6 = c.requires.alphabet_bound in it)) c.loop-i.invariant c.requires.t_value ((let it : Ready c.args.alphabet c.args.k (length c.args.piece.now) = c.requires.ready in it)) c.loop-i-test.true ((let it : (get_or c.args.piece.now c.loop-i.i 0) < 256 = omega (arith, c.type_inv.piece c.loop-i.i) in it)) refl c.if-v.false in it))
+overflow_cast-z-in-loop-i c =
+    let inside : get_or c.args.piece.now c.loop-i.i 0 < 256 = omega (arith, c.type_inv.piece c.loop-i.i) in
+    let low : get_or c.args.t.now (c.args.alphabet * 256 + get_or c.args.piece.now c.loop-i.i 0) 0 < 256 =
+    byte_small c.requires.alphabet_bound c.loop-i.invariant c.requires.t_value c.requires.ready c.loop-i-test.true inside refl c.if-v.false in
+    omega (arith, low)
 
 pub overflow_add-z : goal.overflow_add-z
 overflow_add-z c =
+    let inside : get_or c.args.piece.now c.loop-i.i 0 < 256 = omega (arith, c.type_inv.piece c.loop-i.i) in
     omega (
       arith,
-      plain_joins ((let it : c.args.alphabet < 6 = c.requires.alphabet_bound in it)) c.loop-i.invariant c.requires.t_value ((let it : Ready c.args.alphabet c.args.k (length c.args.piece.now) = c.requires.ready in it)) c.loop-i-test.true
-          ((let it : (get_or c.args.piece.now c.loop-i.i 0) < 256 = omega (arith, c.type_inv.piece c.loop-i.i) in it)) refl c.if-v.false c.requires.b_value,
+      plain_joins c.requires.alphabet_bound c.loop-i.invariant c.requires.t_value c.requires.ready c.loop-i-test.true
+          inside refl c.if-v.false c.requires.b_value,
     )
 
 pub overflow_add-s : goal.overflow_add-s
-overflow_add-s c = omega (arith, (let it : c.args.b ≤ 6 = rw c.requires.b_value (bits_high _ ((let it : c.args.alphabet < 6 = c.requires.alphabet_bound in it))) in it), plain_few ((let it : c.args.alphabet < 6 = c.requires.alphabet_bound in it)) c.loop-i.invariant)
+overflow_add-s c =
+    let wide : c.args.b ≤ 6 = rw c.requires.b_value (bits_high _ c.requires.alphabet_bound) in
+    omega (arith, wide, plain_few c.requires.alphabet_bound c.loop-i.invariant)
 
 pub overflow_add-i : goal.overflow_add-i
-overflow_add-i c = omega (arith, c.loop-i-test.true, plain_fit ((let it : Ready c.args.alphabet c.args.k (length c.args.piece.now) = c.requires.ready in it)))
+overflow_add-i c = omega (arith, c.loop-i-test.true, plain_fit c.requires.ready)
 
 pub loop-i-smaller-then-s-lt8 : goal.loop-i-smaller-then-s-lt8
 loop-i-smaller-then-s-lt8 c = omega (arith, c.loop-i-test.true)
 
 pub loop-i-preserved-then-s-lt8 : goal.loop-i-preserved-then-s-lt8
 loop-i-preserved-then-s-lt8 c =
-    plain_holds ((let it : c.args.alphabet < 6 = c.requires.alphabet_bound in it)) c.loop-i.invariant c.requires.t_value ((let it : Ready c.args.alphabet c.args.k (length c.args.piece.now) = c.requires.ready in it)) c.loop-i-test.true ((let it : (get_or c.args.piece.now c.loop-i.i 0) < 256 = omega (arith, c.type_inv.piece c.loop-i.i) in it)) refl c.if-v.false
+    let inside : get_or c.args.piece.now c.loop-i.i 0 < 256 = omega (arith, c.type_inv.piece c.loop-i.i) in
+    plain_holds c.requires.alphabet_bound c.loop-i.invariant c.requires.t_value c.requires.ready c.loop-i-test.true inside refl c.if-v.false
     c.requires.b_value
     c.if-s-lt8.true
 
 pub after-requires-then-n-out : goal.after-requires-then-n-out
-after-requires-then-n-out c = record { r_bound = plain_few ((let it : c.args.alphabet < 6 = c.requires.alphabet_bound in it)) c.loop-i.invariant; took_bound = (plain_sums ((let it : c.args.alphabet < 6 = c.requires.alphabet_bound in it)) c.loop-i.invariant c.requires.ready).0; took_bound_2 = (plain_sums ((let it : c.args.alphabet < 6 = c.requires.alphabet_bound in it)) c.loop-i.invariant c.requires.ready).1 }
+after-requires-then-n-out c =
+    let fits : (c.args.k.digits + c.loop-i.i < 2 ^ 40) × (c.args.k.taken + c.loop-i.i < 2 ^ 40) =
+    plain_sums c.requires.alphabet_bound c.loop-i.invariant c.requires.ready in
+    record { r_bound = plain_few c.requires.alphabet_bound c.loop-i.invariant; took_bound = fits.0; took_bound_2 = fits.1 }
 
 pub shape_of-out-then-n-out : goal.shape_of-out-then-n-out
-shape_of-out-then-n-out c = plain_size ((let it : c.args.alphabet < 6 = c.requires.alphabet_bound in it)) c.loop-i.invariant
+shape_of-out-then-n-out c = plain_size c.requires.alphabet_bound c.loop-i.invariant
 
 pub returns-then-n-out : goal.returns-then-n-out
-returns-then-n-out c = plain_passes ((let it : c.args.alphabet < 6 = c.requires.alphabet_bound in it)) c.loop-i.invariant c.after-then-n-out.ensures
+returns-then-n-out c = plain_passes c.requires.alphabet_bound c.loop-i.invariant c.after-then-n-out.ensures
 
 pub overflow_shr-out : goal.overflow_shr-out
-overflow_shr-out c = omega (arith, (let it : c.args.b ≤ 6 = rw c.requires.b_value (bits_high _ ((let it : c.args.alphabet < 6 = c.requires.alphabet_bound in it))) in it), plain_few ((let it : c.args.alphabet < 6 = c.requires.alphabet_bound in it)) c.loop-i.invariant)
+overflow_shr-out c =
+    let wide : c.args.b ≤ 6 = rw c.requires.b_value (bits_high _ c.requires.alphabet_bound) in
+    omega (arith, wide, plain_few c.requires.alphabet_bound c.loop-i.invariant)
 
 pub bounds-out-n : goal.bounds-out-n
-bounds-out-n c = omega (arith, plain_size ((let it : c.args.alphabet < 6 = c.requires.alphabet_bound in it)) c.loop-i.invariant, plain_fits ((let it : c.args.alphabet < 6 = c.requires.alphabet_bound in it)) c.loop-i.invariant, c.if-n-out.false)
+bounds-out-n c = omega (arith, plain_size c.requires.alphabet_bound c.loop-i.invariant, plain_fits c.requires.alphabet_bound c.loop-i.invariant, c.if-n-out.false)
 
 pub overflow_add-n : goal.overflow_add-n
-overflow_add-n c = omega (arith, plain_size ((let it : c.args.alphabet < 6 = c.requires.alphabet_bound in it)) c.loop-i.invariant, plain_fits ((let it : c.args.alphabet < 6 = c.requires.alphabet_bound in it)) c.loop-i.invariant, c.if-n-out.false)
+overflow_add-n c = omega (arith, plain_size c.requires.alphabet_bound c.loop-i.invariant, plain_fits c.requires.alphabet_bound c.loop-i.invariant, c.if-n-out.false)
 
 pub overflow_add-i-else-s-lt8 : goal.overflow_add-i-else-s-lt8
-overflow_add-i-else-s-lt8 c = omega (arith, c.loop-i-test.true, plain_fit ((let it : Ready c.args.alphabet c.args.k (length c.args.piece.now) = c.requires.ready in it)))
+overflow_add-i-else-s-lt8 c = omega (arith, c.loop-i-test.true, plain_fit c.requires.ready)
 
 pub loop-i-smaller : goal.loop-i-smaller
 loop-i-smaller c = omega (arith, c.loop-i-test.true)
 
 pub loop-i-preserved : goal.loop-i-preserved
 loop-i-preserved c =
-    plain_gives ((let it : c.args.alphabet < 6 = c.requires.alphabet_bound in it)) c.loop-i.invariant c.requires.t_value ((let it : Ready c.args.alphabet c.args.k (length c.args.piece.now) = c.requires.ready in it)) c.loop-i-test.true ((let it : (get_or c.args.piece.now c.loop-i.i 0) < 256 = omega (arith, c.type_inv.piece c.loop-i.i) in it)) refl c.if-v.false
+    let inside : get_or c.args.piece.now c.loop-i.i 0 < 256 = omega (arith, c.type_inv.piece c.loop-i.i) in
+    plain_gives c.requires.alphabet_bound c.loop-i.invariant c.requires.t_value c.requires.ready c.loop-i-test.true inside refl c.if-v.false
     c.requires.b_value
-    c.if-s-lt8.false (omega (arith, plain_size ((let it : c.args.alphabet < 6 = c.requires.alphabet_bound in it)) c.loop-i.invariant, plain_fits ((let it : c.args.alphabet < 6 = c.requires.alphabet_bound in it)) c.loop-i.invariant, c.if-n-out.false))
+    c.if-s-lt8.false (omega (arith, plain_size c.requires.alphabet_bound c.loop-i.invariant, plain_fits c.requires.alphabet_bound c.loop-i.invariant, c.if-n-out.false))
 
 pub after-requires-2 : goal.after-requires-2
-after-requires-2 c = record { r_bound = plain_few ((let it : c.args.alphabet < 6 = c.requires.alphabet_bound in it)) c.loop-i.invariant; took_bound = (plain_sums ((let it : c.args.alphabet < 6 = c.requires.alphabet_bound in it)) c.loop-i.invariant c.requires.ready).0; took_bound_2 = (plain_sums ((let it : c.args.alphabet < 6 = c.requires.alphabet_bound in it)) c.loop-i.invariant c.requires.ready).1 }
+after-requires-2 c =
+    let fits : (c.args.k.digits + c.loop-i.i < 2 ^ 40) × (c.args.k.taken + c.loop-i.i < 2 ^ 40) =
+    plain_sums c.requires.alphabet_bound c.loop-i.invariant c.requires.ready in
+    record { r_bound = plain_few c.requires.alphabet_bound c.loop-i.invariant; took_bound = fits.0; took_bound_2 = fits.1 }
 
 pub shape_of-out : goal.shape_of-out
-shape_of-out c = plain_size ((let it : c.args.alphabet < 6 = c.requires.alphabet_bound in it)) c.loop-i.invariant
+shape_of-out c = plain_size c.requires.alphabet_bound c.loop-i.invariant
 
 pub returns : goal.returns
-returns c = plain_passes ((let it : c.args.alphabet < 6 = c.requires.alphabet_bound in it)) c.loop-i.invariant c.after-2.ensures
+returns c = plain_passes c.requires.alphabet_bound c.loop-i.invariant c.after-2.ensures

@@ -1,6 +1,5 @@
 -- `reader::as_end`: by the end. Assumes nothing.
 use Rattle.stream.specs.Packed.{as_end}
-use borrow.Author.Rules.{rules}
 use Rattle.stream.proofs.reader.as_end.Goals as goal
 
 pub returns-in-Whole : goal.returns-in-Whole

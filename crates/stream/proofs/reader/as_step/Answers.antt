@@ -1,6 +1,5 @@
 -- `reader::as_step`: by why the run stopped. Assumes nothing.
 use Rattle.stream.specs.Packed.{by_why}
-use borrow.Author.Rules.{rules}
 use Rattle.stream.proofs.reader.as_step.Goals as goal
 
 pub returns-in-All : goal.returns-in-All

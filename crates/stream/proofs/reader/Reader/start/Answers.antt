@@ -1,7 +1,6 @@
 -- `Reader::start`: a fresh state for a choice that is allowed. Assumes nothing.
 use mathlib.Core.Path.{sym, ◌∙◌}
 use Rattle.stream.proofs.Returns.{start_allowed, start_declined}
-use borrow.Author.Rules.{rules}
 use Rattle.stream.proofs.reader.Reader.start.Goals as goal
 
 pub returns-then-allowed : goal.returns-then-allowed

@@ -2,7 +2,6 @@
 use mathlib.Core.Path.{sym, ap, ◌∙◌}
 use Rattle.stream.specs.Packed.{untold}
 use Rattle.stream.proofs.Returns.{bad, over, again, unmoved_step, open_step}
-use borrow.Author.Rules.{rules}
 use Rattle.stream.proofs.reader.Reader.step.Goals as goal
 
 pub returns-in-Open : goal.returns-in-Open
