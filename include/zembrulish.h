@@ -21,8 +21,8 @@
  * Any numbers may be given for both: those that are not allowed give answer 1.
  *
  *   answer                                        position                  count
- *   0 accepted, or written                        length of the text        bytes decoded; writing: length of the text
- *   1 no such alphabet, options or pair of them   0                         0
+ *   0 accepted or written                         length of the text        bytes decoded; writing: length of the text
+ *   1 no such alphabet or options                 0                         0
  *   2 too long                                    reading: ZEM_LIMIT        good bytes of the text's first ZEM_LIMIT bytes
  *                                                 writing: 0                0
  *   3 no room                                     0                         the room needed

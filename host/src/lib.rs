@@ -1,4 +1,4 @@
-//! A safe wrapper over the C face (`include/zembrulish.h`), and beside it what the tests hold that face to:
+//! A safe wrapper over the C face (`include/zembrulish.h`), and beside it what the tests hold that face to: `answers`, the list of answers,
 //! `reference`, an independent codec, `oracle`, the same by trying continuations, and `ordinary`, decoders to measure against.
 //!
 //! ```
@@ -7,6 +7,7 @@
 //! assert_eq!((answer.number, answer.bytes(&out)), (0, &b"foob"[..]));
 //! ```
 
+pub mod answers;
 pub mod oracle;
 pub mod ordinary;
 pub mod reference;
@@ -56,18 +57,7 @@ pub struct Answer {
 impl Answer {
     /// The answer's number in words.
     pub fn meaning(&self) -> &'static str {
-        match self.number {
-            0 => "accepted or written",
-            1 => "no such alphabet or options",
-            2 => "too long",
-            3 => "no room",
-            4 => "foreign byte",
-            5 => "pad in a wrong place",
-            6 => "spare bits not zero",
-            7 => "digit or pad after padding",
-            8 => "cut short",
-            _ => "unknown",
-        }
+        answers::ANSWERS.get(self.number as usize).map_or("unknown", |row| row.meaning)
     }
 
     /// The bytes that the call put at the front of `out`: none where it found no room.
