@@ -19,14 +19,32 @@ returns-then-rest-pads c = rw (← c.limit.ensures, le-leb _ _ c.if-limit-taken.
 pub returns-then-dropped : goal.returns-then-dropped
 unfolding counts_fit
 returns-then-dropped c =
-    rw (← c.limit.ensures, le-leb _ _ c.if-limit-taken.false, rest_more _ _ _ c.if-taken-digits.false c.if-rest-pads.false, lines_by _ c.dropped.ensures c.if-dropped.true)
+    rw (
+      ← c.limit.ensures,
+      le-leb _ _ c.if-limit-taken.false,
+      rest_more _ _ _ c.if-taken-digits.false c.if-rest-pads.false,
+      lines_by _ c.dropped.ensures c.if-dropped.true,
+    )
 
 pub returns-then-dropped-2 : goal.returns-then-dropped-2
 unfolding counts_fit
 returns-then-dropped-2 c =
-    rw (← c.limit.ensures, le-leb _ _ c.if-limit-taken.false, rest_more _ _ _ c.if-taken-digits.false c.if-rest-pads.false, lines_by _ c.dropped.ensures c.if-dropped.false, blank_by _ c.dropped-2.ensures c.if-dropped-2.true)
+    rw (
+      ← c.limit.ensures,
+      le-leb _ _ c.if-limit-taken.false,
+      rest_more _ _ _ c.if-taken-digits.false c.if-rest-pads.false,
+      lines_by _ c.dropped.ensures c.if-dropped.false,
+      blank_by _ c.dropped-2.ensures c.if-dropped-2.true,
+    )
 
 pub returns : goal.returns
 unfolding counts_fit
 returns c =
-    rw (rest_is _ _ _ c.if-taken-digits.false, ← c.limit.ensures, le-leb _ _ c.if-limit-taken.false, rest_more _ _ _ c.if-taken-digits.false c.if-rest-pads.false, lines_by _ c.dropped.ensures c.if-dropped.false, blank_by _ c.dropped-2.ensures c.if-dropped-2.false)
+    rw (
+      rest_is _ _ _ c.if-taken-digits.false,
+      ← c.limit.ensures,
+      le-leb _ _ c.if-limit-taken.false,
+      rest_more _ _ _ c.if-taken-digits.false c.if-rest-pads.false,
+      lines_by _ c.dropped.ensures c.if-dropped.false,
+      blank_by _ c.dropped-2.ensures c.if-dropped-2.false,
+    )

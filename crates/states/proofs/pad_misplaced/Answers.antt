@@ -8,7 +8,14 @@ use Rattle.states.proofs.pad_misplaced.Goals as goal
 pub returns-then-pads-eq0 : goal.returns-then-pads-eq0
 unfolding refusable
 returns-then-pads-eq0 c =
-    rw (← wants_is, ← c.wants.ensures, ← c.limit.ensures, lt-ltb _ _ c.if-taken-limit.true, sym c.padded.ensures ∙ c.if-padded.true, eq-eqb _ _ c.if-pads-eq0.true)
+    rw (
+      ← wants_is,
+      ← c.wants.ensures,
+      ← c.limit.ensures,
+      lt-ltb _ _ c.if-taken-limit.true,
+      sym c.padded.ensures ∙ c.if-padded.true,
+      eq-eqb _ _ c.if-pads-eq0.true,
+    )
 
 pub returns-else-pads-eq0 : goal.returns-else-pads-eq0
 unfolding refusable

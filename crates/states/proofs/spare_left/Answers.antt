@@ -22,9 +22,23 @@ returns-then-held-eq0 c =
 pub returns-then-chosen : goal.returns-then-chosen
 unfolding spare_left
 returns-then-chosen c =
-    rw (← wants_is, ← c.wants.ensures, none_is _ c.if-pads-gt0.false, ne_eqb _ _ c.if-wants-eq0.false, ne_eqb _ _ c.if-held-eq0.false, sym c.chosen.ensures ∙ c.if-chosen.true)
+    rw (
+      ← wants_is,
+      ← c.wants.ensures,
+      none_is _ c.if-pads-gt0.false,
+      ne_eqb _ _ c.if-wants-eq0.false,
+      ne_eqb _ _ c.if-held-eq0.false,
+      sym c.chosen.ensures ∙ c.if-chosen.true,
+    )
 
 pub returns : goal.returns
 unfolding spare_left
 returns c =
-    rw (← wants_is, ← c.wants.ensures, none_is _ c.if-pads-gt0.false, ne_eqb _ _ c.if-wants-eq0.false, ne_eqb _ _ c.if-held-eq0.false, sym c.chosen.ensures ∙ c.if-chosen.false)
+    rw (
+      ← wants_is,
+      ← c.wants.ensures,
+      none_is _ c.if-pads-gt0.false,
+      ne_eqb _ _ c.if-wants-eq0.false,
+      ne_eqb _ _ c.if-held-eq0.false,
+      sym c.chosen.ensures ∙ c.if-chosen.false,
+    )

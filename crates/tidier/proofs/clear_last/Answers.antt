@@ -20,7 +20,9 @@ bounds-out-last c =
 
 pub overflow_sub-v : goal.overflow_sub-v
 overflow_sub-v c =
-    held_low c.args.alphabet c.args.held c.args.n c.args.out.now c.requires.alphabet_bound c.requires.n_in_bounds c.if-held-eq0.false c.requires.clearable (told c.requires.t_value c.requires.alphabet_bound (omega (arith, c.type_inv.out (c.args.n - 1))) (sym c.lookup.ensures ∙ c.in-Digit.is))
+    held_low c.args.alphabet c.args.held c.args.n c.args.out.now c.requires.alphabet_bound c.requires.n_in_bounds c.if-held-eq0.false
+    c.requires.clearable (told c.requires.t_value c.requires.alphabet_bound (omega (arith, c.type_inv.out (c.args.n - 1)))
+    (sym c.lookup.ensures ∙ c.in-Digit.is))
 
 pub bounds-out-last-in-Digit : goal.bounds-out-last-in-Digit
 bounds-out-last-in-Digit c =
@@ -28,7 +30,9 @@ bounds-out-last-in-Digit c =
 
 pub returns-in-Digit : goal.returns-in-Digit
 returns-in-Digit c =
-    last_cleared c.args.alphabet c.args.held c.args.n c.args.out.now c.requires.alphabet_bound c.requires.n_in_bounds c.if-held-eq0.false c.requires.clearable (told c.requires.t_value c.requires.alphabet_bound (omega (arith, c.slice_known-2-1.given (c.args.n - 1))) (sym c.lookup.ensures ∙ c.in-Digit.is)) c.digits-d.ensures c.digit.ensures
+    last_cleared c.args.alphabet c.args.held c.args.n c.args.out.now c.requires.alphabet_bound c.requires.n_in_bounds c.if-held-eq0.false
+    c.requires.clearable (told c.requires.t_value c.requires.alphabet_bound (omega (arith, c.slice_known-2-1.given (c.args.n - 1)))
+    (sym c.lookup.ensures ∙ c.in-Digit.is)) c.digits-d.ensures c.digit.ensures
 
 pub returns-in-Pad : goal.returns-in-Pad
 returns-in-Pad c =

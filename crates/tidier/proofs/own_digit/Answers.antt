@@ -14,14 +14,17 @@ returns-then-dropped c = sym (spelt_dropped _ _ _ (sym c.dropped.ensures ∙ c.i
 pub returns-in-Digit : goal.returns-in-Digit
 unfolding own_text
 returns-in-Digit c =
-    own_digit _ _ _ c.requires.alphabet_bound (sym c.dropped.ensures ∙ c.if-dropped.false) c.turned-turn.ensures (told c.requires.t_value c.requires.alphabet_bound (search rules) (sym c.lookup.ensures ∙ c.in-Digit.is))
+    own_digit _ _ _ c.requires.alphabet_bound (sym c.dropped.ensures ∙ c.if-dropped.false) c.turned-turn.ensures
+    (told c.requires.t_value c.requires.alphabet_bound (search rules) (sym c.lookup.ensures ∙ c.in-Digit.is))
 
 pub returns-in-Pad : goal.returns-in-Pad
 unfolding own_text
 returns-in-Pad c =
-    own_pad _ _ _ c.requires.alphabet_bound (sym c.dropped.ensures ∙ c.if-dropped.false) c.turned-turn.ensures (told c.requires.t_value c.requires.alphabet_bound (search rules) (sym c.lookup.ensures ∙ c.in-Pad.is))
+    own_pad _ _ _ c.requires.alphabet_bound (sym c.dropped.ensures ∙ c.if-dropped.false) c.turned-turn.ensures
+    (told c.requires.t_value c.requires.alphabet_bound (search rules) (sym c.lookup.ensures ∙ c.in-Pad.is))
 
 pub returns-in-Neither : goal.returns-in-Neither
 unfolding own_text
 returns-in-Neither c =
-    own_neither _ _ _ c.requires.alphabet_bound (sym c.dropped.ensures ∙ c.if-dropped.false) c.turned-turn.ensures (told c.requires.t_value c.requires.alphabet_bound (search rules) (sym c.lookup.ensures ∙ c.in-Neither.is))
+    own_neither _ _ _ c.requires.alphabet_bound (sym c.dropped.ensures ∙ c.if-dropped.false) c.turned-turn.ensures
+    (told c.requires.t_value c.requires.alphabet_bound (search rules) (sym c.lookup.ensures ∙ c.in-Neither.is))

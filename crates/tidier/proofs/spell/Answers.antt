@@ -13,11 +13,21 @@ loop-i-init c = spelling_begins
 
 pub bounds-out-n : goal.bounds-out-n
 bounds-out-n c =
-    omega (arith, spelling_room c.loop-i.invariant c.loop-i-test.true c.requires.text_in_bounds (digit_spelt _ _ (get_or c.args.text.now c.loop-i.i 0) c.requires.options_value (told c.requires.t_value (allowed_alphabet _ _ c.requires.options_value) (omega (arith, c.type_inv.text c.loop-i.i)) (sym c.lookup.ensures ∙ c.in-Digit.is))), spelling_same c.loop-i.invariant c.requires.text_in_bounds)
+    omega (
+      arith,
+      spelling_room c.loop-i.invariant c.loop-i-test.true c.requires.text_in_bounds
+          (digit_spelt _ _ (get_or c.args.text.now c.loop-i.i 0) c.requires.options_value
+          (told c.requires.t_value (allowed_alphabet _ _ c.requires.options_value) (omega (arith, c.type_inv.text c.loop-i.i))
+          (sym c.lookup.ensures ∙ c.in-Digit.is))),
+      spelling_same c.loop-i.invariant c.requires.text_in_bounds,
+    )
 
 pub loop-i-preserved-in-Digit : goal.loop-i-preserved-in-Digit
 loop-i-preserved-in-Digit c =
-    spelling_puts c.loop-i.invariant c.loop-i-test.true c.requires.text_in_bounds (digit_spelt _ _ (get_or c.args.text.now c.loop-i.i 0) c.requires.options_value (told c.requires.t_value (allowed_alphabet _ _ c.requires.options_value) (omega (arith, c.type_inv.text c.loop-i.i)) (sym c.lookup.ensures ∙ c.in-Digit.is)))
+    spelling_puts c.loop-i.invariant c.loop-i-test.true c.requires.text_in_bounds
+    (digit_spelt _ _ (get_or c.args.text.now c.loop-i.i 0) c.requires.options_value
+    (told c.requires.t_value (allowed_alphabet _ _ c.requires.options_value) (omega (arith, c.type_inv.text c.loop-i.i))
+    (sym c.lookup.ensures ∙ c.in-Digit.is)))
 
 pub own_digit-requires : goal.own_digit-requires
 own_digit-requires c = record { t_value = c.requires.t_value; alphabet_bound = allowed_alphabet _ _ c.requires.options_value }
@@ -25,7 +35,12 @@ own_digit-requires c = record { t_value = c.requires.t_value; alphabet_bound = a
 pub bounds-out-n-in-Digit-own_digit : goal.bounds-out-n-in-Digit-own_digit
 unfolding own_text
 bounds-out-n-in-Digit-own_digit c =
-    omega (arith, spelling_room c.loop-i.invariant c.loop-i-test.true c.requires.text_in_bounds (sym c.own_digit.ensures ∙ ap own_text c.in-Digit-own_digit.is), spelling_same c.loop-i.invariant c.requires.text_in_bounds)
+    omega (
+      arith,
+      spelling_room c.loop-i.invariant c.loop-i-test.true c.requires.text_in_bounds
+          (sym c.own_digit.ensures ∙ ap own_text c.in-Digit-own_digit.is),
+      spelling_same c.loop-i.invariant c.requires.text_in_bounds,
+    )
 
 pub loop-i-preserved-in-Digit-own_digit : goal.loop-i-preserved-in-Digit-own_digit
 unfolding own_text

@@ -16,11 +16,16 @@ overflow_add-need c =
 pub returns-then-out-need : goal.returns-then-out-need
 returns-then-out-need c =
     let x = accepts c.args.alphabet c.args.options c.args.text.now c.count-ran.ensures c.outcome.ensures c.in-Accepted.is in
-    lacking c.args.alphabet c.args.options c.args.text.now c.count-ran.ensures x c.args.out.now (need_is c.args.alphabet c.args.options c.args.text.now c.count-ran.ensures x c.wanting.ensures) c.if-out-need.true
+    lacking c.args.alphabet c.args.options c.args.text.now c.count-ran.ensures x c.args.out.now
+    (need_is c.args.alphabet c.args.options c.args.text.now c.count-ran.ensures x c.wanting.ensures) c.if-out-need.true
 
 pub write_clean-requires : goal.write_clean-requires
 write_clean-requires c = let x = accepts c.args.alphabet c.args.options c.args.text.now c.count-ran.ensures c.outcome.ensures c.in-Accepted.is in
-    record { spelled = spells c.args.alphabet c.args.options c.args.text.now c.count-ran.ensures x; need_value = need_is c.args.alphabet c.args.options c.args.text.now c.count-ran.ensures x c.wanting.ensures; need_in_bounds = c.if-out-need.false }
+    record {
+      spelled = spells c.args.alphabet c.args.options c.args.text.now c.count-ran.ensures x;
+      need_value = need_is c.args.alphabet c.args.options c.args.text.now c.count-ran.ensures x c.wanting.ensures;
+      need_in_bounds = c.if-out-need.false;
+    }
 
 pub returns-in-Refused : goal.returns-in-Refused
 returns-in-Refused c =
@@ -29,4 +34,5 @@ returns-in-Refused c =
 pub returns-else-out-need : goal.returns-else-out-need
 returns-else-out-need c =
     let x = accepts c.args.alphabet c.args.options c.args.text.now c.count-ran.ensures c.outcome.ensures c.in-Accepted.is in
-    tidied c.args.alphabet c.args.options c.args.text.now c.count-ran.ensures x c.args.out.now (need_is c.args.alphabet c.args.options c.args.text.now c.count-ran.ensures x c.wanting.ensures) c.if-out-need.false c.write_clean.ensures
+    tidied c.args.alphabet c.args.options c.args.text.now c.count-ran.ensures x c.args.out.now
+    (need_is c.args.alphabet c.args.options c.args.text.now c.count-ran.ensures x c.wanting.ensures) c.if-out-need.false c.write_clean.ensures

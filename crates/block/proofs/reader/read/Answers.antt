@@ -12,7 +12,8 @@ returns-then-out-need c =
 
 pub returns-then-allowed : goal.returns-then-allowed
 returns-then-allowed c =
-    read_through _ _ _ _ (sym c.allowed.ensures ∙ c.if-allowed.true) c.needed-need.ensures c.if-out-need.false c.fresh-start.ensures (c.run-ran.ensures.value, c.run-ran.ensures.out_after) c.outcome.ensures
+    read_through _ _ _ _ (sym c.allowed.ensures ∙ c.if-allowed.true) c.needed-need.ensures c.if-out-need.false c.fresh-start.ensures
+    (c.run-ran.ensures.value, c.run-ran.ensures.out_after) c.outcome.ensures
 
 pub returns : goal.returns
 returns c = declined _ _ _ _ (sym c.allowed.ensures ∙ c.if-allowed.false)

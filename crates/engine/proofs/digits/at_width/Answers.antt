@@ -106,10 +106,12 @@ overflow_shr-out c =
     omega (arith, wide, plain_few c.requires.alphabet_bound c.loop-i.invariant)
 
 pub bounds-out-n : goal.bounds-out-n
-bounds-out-n c = omega (arith, plain_size c.requires.alphabet_bound c.loop-i.invariant, plain_fits c.requires.alphabet_bound c.loop-i.invariant, c.if-n-out.false)
+bounds-out-n c =
+    omega (arith, plain_size c.requires.alphabet_bound c.loop-i.invariant, plain_fits c.requires.alphabet_bound c.loop-i.invariant, c.if-n-out.false)
 
 pub overflow_add-n : goal.overflow_add-n
-overflow_add-n c = omega (arith, plain_size c.requires.alphabet_bound c.loop-i.invariant, plain_fits c.requires.alphabet_bound c.loop-i.invariant, c.if-n-out.false)
+overflow_add-n c =
+    omega (arith, plain_size c.requires.alphabet_bound c.loop-i.invariant, plain_fits c.requires.alphabet_bound c.loop-i.invariant, c.if-n-out.false)
 
 pub overflow_add-i-else-s-lt8 : goal.overflow_add-i-else-s-lt8
 overflow_add-i-else-s-lt8 c = omega (arith, c.loop-i-test.true, plain_fit c.requires.ready)
@@ -122,7 +124,8 @@ loop-i-preserved c =
     let inside : get_or c.args.piece.now c.loop-i.i 0 < 256 = omega (arith, c.type_inv.piece c.loop-i.i) in
     plain_gives c.requires.alphabet_bound c.loop-i.invariant c.requires.t_value c.requires.ready c.loop-i-test.true inside refl c.if-v.false
     c.requires.b_value
-    c.if-s-lt8.false (omega (arith, plain_size c.requires.alphabet_bound c.loop-i.invariant, plain_fits c.requires.alphabet_bound c.loop-i.invariant, c.if-n-out.false))
+    c.if-s-lt8.false (omega
+    (arith, plain_size c.requires.alphabet_bound c.loop-i.invariant, plain_fits c.requires.alphabet_bound c.loop-i.invariant, c.if-n-out.false))
 
 pub after-requires-2 : goal.after-requires-2
 after-requires-2 c =

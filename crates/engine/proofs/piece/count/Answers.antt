@@ -19,7 +19,7 @@ tally-r-requires c = record {
 pub returns-then-allowed : goal.returns-then-allowed
 returns-then-allowed c =
     let l = take c.below_limit-m.result c.args.text.now in
-    fresh_is c.args.alphabet c.args.options c.args.text.now ((sym c.allowed.ensures ∙ c.if-allowed.true)) c.below_limit-m.ensures
+    fresh_is c.args.alphabet c.args.options c.args.text.now (sym c.allowed.ensures ∙ c.if-allowed.true) c.below_limit-m.ensures
     (from_start c.args.alphabet c.args.options (length l) l c.fresh-start.ensures c.tally-r.ensures) c.at_limit.ensures
 
 pub returns : goal.returns

@@ -23,10 +23,10 @@ settle-r-requires c = record {
 pub returns-then-allowed : goal.returns-then-allowed
 returns-then-allowed c = let l = take c.below_limit-m.result c.args.buf.now in
     record {
-      value = fresh_is c.args.alphabet c.args.options c.args.buf.now ((sym c.allowed.ensures ∙ c.if-allowed.true)) c.below_limit-m.ensures
+      value = fresh_is c.args.alphabet c.args.options c.args.buf.now (sym c.allowed.ensures ∙ c.if-allowed.true) c.below_limit-m.ensures
           (from_start c.args.alphabet c.args.options (length l) l c.fresh-start.ensures c.settle-r.ensures.value)
           c.at_limit.ensures;
-      buf_after = fresh_filled c.args.alphabet c.args.options c.args.buf.now ((sym c.allowed.ensures ∙ c.if-allowed.true)) c.below_limit-m.ensures
+      buf_after = fresh_filled c.args.alphabet c.args.options c.args.buf.now (sym c.allowed.ensures ∙ c.if-allowed.true) c.below_limit-m.ensures
           (filled_start c.args.alphabet c.args.options (length l) l l c.fresh-start.ensures c.settle-r.ensures.buf_after);
     }
 

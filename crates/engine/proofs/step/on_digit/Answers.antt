@@ -23,9 +23,11 @@ overflow_add-next c = omega (arith, taken_fits _ c.requires.alphabet_bound _ c.r
 pub returns-in-Held : goal.returns-in-Held
 unfolding held_bits
 returns-in-Held c =
-    digit_held _ c.requires.alphabet_bound _ c.requires.fit c.requires.v_bound c.if-pads-gt0.false (rw (← c.requires.b_value) (sym c.feed.ensures ∙ c.in-Held.is))
+    digit_held _ c.requires.alphabet_bound _ c.requires.fit c.requires.v_bound c.if-pads-gt0.false
+    (rw (← c.requires.b_value) (sym c.feed.ensures ∙ c.in-Held.is))
 
 pub returns-in-Byte : goal.returns-in-Byte
 unfolding held_bits
 returns-in-Byte c =
-    digit_gives _ c.requires.alphabet_bound _ c.requires.fit c.requires.v_bound c.if-pads-gt0.false (rw (← c.requires.b_value) (sym c.feed.ensures ∙ c.in-Byte.is))
+    digit_gives _ c.requires.alphabet_bound _ c.requires.fit c.requires.v_bound c.if-pads-gt0.false
+    (rw (← c.requires.b_value) (sym c.feed.ensures ∙ c.in-Byte.is))

@@ -32,9 +32,11 @@ returns-then-held-eq0 c = rw (← c.wants-w.ensures) (simp (le-ltb _ _ c.if-pads
 pub returns-then-chosen : goal.returns-then-chosen
 unfolding on_pad wants
 returns-then-chosen c =
-    rw (← c.wants-w.ensures) (simp (le-ltb _ _ c.if-pads-gt0.false, ne_eqb _ _ c.if-w-eq0.false, ne_eqb _ _ c.if-held-eq0.false, sym c.chosen.ensures ∙ c.if-chosen.true))
+    rw (← c.wants-w.ensures)
+    (simp (le-ltb _ _ c.if-pads-gt0.false, ne_eqb _ _ c.if-w-eq0.false, ne_eqb _ _ c.if-held-eq0.false, sym c.chosen.ensures ∙ c.if-chosen.true))
 
 pub returns : goal.returns
 unfolding on_pad wants number
 returns c =
-    rw (← c.wants-w.ensures) (simp (le-ltb _ _ c.if-pads-gt0.false, ne_eqb _ _ c.if-w-eq0.false, ne_eqb _ _ c.if-held-eq0.false, sym c.chosen.ensures ∙ c.if-chosen.false))
+    rw (← c.wants-w.ensures)
+    (simp (le-ltb _ _ c.if-pads-gt0.false, ne_eqb _ _ c.if-w-eq0.false, ne_eqb _ _ c.if-held-eq0.false, sym c.chosen.ensures ∙ c.if-chosen.false))

@@ -17,20 +17,25 @@ unfolding passes
 returns-then-dropped c = sym (step_dropped _ _ _ _ (sym c.dropped.ensures ∙ c.if-dropped.true))
 
 pub on_digit-requires : goal.on_digit-requires
-on_digit-requires c = let d = turned_digit _ _ _ (state_of c.args.k) c.requires.t_value c.requires.alphabet_bound (sym c.dropped.ensures ∙ c.if-dropped.false) c.turned-turn.ensures (search rules) (sym c.lookup.ensures ∙ c.in-Digit.is) in
+on_digit-requires c =
+    let d = turned_digit _ _ _ (state_of c.args.k) c.requires.t_value c.requires.alphabet_bound
+    (sym c.dropped.ensures ∙ c.if-dropped.false) c.turned-turn.ensures (search rules) (sym c.lookup.ensures ∙ c.in-Digit.is) in
     record { b_value = c.bits-b.ensures; alphabet_bound = c.requires.alphabet_bound; fit = c.requires.fit; v_bound = d.small }
 
 pub returns-in-Digit : goal.returns-in-Digit
 returns-in-Digit c =
-    let d = turned_digit _ _ _ _ c.requires.t_value c.requires.alphabet_bound (sym c.dropped.ensures ∙ c.if-dropped.false) c.turned-turn.ensures (search rules) (sym c.lookup.ensures ∙ c.in-Digit.is) in
+    let d = turned_digit _ _ _ _ c.requires.t_value c.requires.alphabet_bound (sym c.dropped.ensures ∙ c.if-dropped.false) c.turned-turn.ensures
+    (search rules) (sym c.lookup.ensures ∙ c.in-Digit.is) in
     c.on_digit.ensures ∙ sym d.is
 
 pub returns-in-Pad : goal.returns-in-Pad
 returns-in-Pad c =
     c.on_pad.ensures
-    ∙ sym (turned_pad _ _ _ _ c.requires.t_value c.requires.alphabet_bound (sym c.dropped.ensures ∙ c.if-dropped.false) c.turned-turn.ensures (search rules) (sym c.lookup.ensures ∙ c.in-Pad.is))
+    ∙ sym (turned_pad _ _ _ _ c.requires.t_value c.requires.alphabet_bound (sym c.dropped.ensures ∙ c.if-dropped.false) c.turned-turn.ensures
+    (search rules) (sym c.lookup.ensures ∙ c.in-Pad.is))
 
 pub returns-in-Neither : goal.returns-in-Neither
 unfolding number
 returns-in-Neither c =
-    sym (turned_neither _ _ _ _ c.requires.t_value c.requires.alphabet_bound (sym c.dropped.ensures ∙ c.if-dropped.false) c.turned-turn.ensures (search rules) (sym c.lookup.ensures ∙ c.in-Neither.is))
+    sym (turned_neither _ _ _ _ c.requires.t_value c.requires.alphabet_bound (sym c.dropped.ensures ∙ c.if-dropped.false) c.turned-turn.ensures
+    (search rules) (sym c.lookup.ensures ∙ c.in-Neither.is))
