@@ -4,6 +4,7 @@ use mathlib.Core.Path.{◌≡◌, refl, sym, ap, ◌∙◌}
 use mathlib.Core.Bool.{Bool, true, false, cond}
 use mathlib.Core.List.{List, []}
 use lib.ListN.{length}
+use Rattle.answer.proofs.ToldCases.{told_accepted, told_refused, told_choice, told_room}
 use Rattle.reading.specs.Options.{allowed}
 use Rattle.reading.specs.Reader.{Verdict, fresh, judged}
 use Rattle.reading.specs.Promises.{Promised}
@@ -13,6 +14,7 @@ use Rattle.reading.proofs.OptionLaws.{allowed_alphabet}
 use Rattle.reading.proofs.Meaning.{promised}
 use Rattle.reading.proofs.GoodCount.{good_within}
 use Rattle.reading.proofs.WholeRun.{never_full, all_verdict, refused_verdict, refused_range}
+use Rattle.rule.proofs.Causes.{kind_number, kind_position}
 use Rattle.engine.specs.Ran.{ran_as, fresh_as, fresh_bytes}
 use Rattle.engine.proofs.FromFresh.{all_as, refused_as, number_cause, fresh_runs, fresh_runs_bytes, fresh_unfit, fresh_unfit_bytes}
 use Rattle.block.specs.Whole.{verdict, choice, judge_of, in_place_bytes}
@@ -63,3 +65,6 @@ module _ (a opts : ℕ) (t : List ℕ) where
       go : (x : Bool) → allowed a opts ≡ x → fresh_bytes a opts t ≡ cond x (judged a opts t).good []
       go true e = fresh_runs_bytes a opts t e ∙ run_gives (length t) e (within e)
       go false e = fresh_unfit_bytes a opts t e
+
+-- an answer in 01's numbers, by its case
+pub ruleset cases = (told_accepted, told_refused, told_choice, told_room, kind_number, kind_position)

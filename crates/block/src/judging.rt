@@ -6,32 +6,29 @@ ghost use Rattle.block.specs.Calls.{JudgeAs};
 
 use answer::{Count, Kind, Outcome, Place};
 use engine::piece::{Ran, Why};
-use rule::{End, kind_by};
+use rule::choice::Choice;
 
 // What a run over a whole text answers.
-pub fn outcome(alphabet: usize, options: usize, ran: Ran) -> Outcome
-    ensures { told result ≡ answered alphabet options ran }
+#[tactic(auto, using(crate::proofs::Answers::cases), unfolding(crate::specs::Answered::answered_by))]
+pub fn outcome(choice: Choice, ran: Ran) -> Outcome
+    ensures { told result ≡ answered choice.alphabet choice.options ran }
 {
-    let core = ran.core;
-    let why = ran.why;
-    let taken = core.taken;
-    let wrote = ran.wrote;
-    let place = Place(taken);
-    let count = Count(wrote);
-    match why {
-        Why::All => match rule::ending(alphabet, options, core) {
-            End::Whole => Outcome::Accepted(place, count),
-            End::Refused(cause) => Outcome::Refused(kind_by(cause, place), count),
+    let place = Place(ran.core.taken);
+    let count = Count(ran.wrote);
+    match ran.why {
+        Why::All => match choice.ending(ran.core) {
+            Ok(()) => Outcome::Accepted(place, count),
+            Err(cause) => Outcome::Refused(cause.at(place), count),
         },
-        Why::Refused(cause) => Outcome::Refused(kind_by(cause, place), count),
+        Why::Refused(cause) => Outcome::Refused(cause.at(place), count),
         Why::Full => Outcome::Refused(Kind::NoRoom(Place(0)), count),
         Why::Unfit => Outcome::Refused(Kind::Choice, Count(0)),
     }
 }
 
-pub fn judge(alphabet: usize, options: usize, text: &[u8]) -> Outcome
-    ensures { JudgeAs alphabet options text.now result }
+#[tactic(auto, using(crate::proofs::Answers::promised_of, crate::proofs::Answers::count_answers))]
+pub fn judge(choice: Choice, text: &[u8]) -> Outcome
+    ensures { JudgeAs choice.alphabet choice.options text.now result }
 {
-    let ran = engine::piece::count(alphabet, options, text);
-    outcome(alphabet, options, ran)
+    outcome(choice, engine::piece::count(choice, text))
 }

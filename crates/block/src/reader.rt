@@ -6,51 +6,48 @@ ghost use Rattle.block.specs.Room.{most_of, needed_of};
 
 use crate::judging::outcome;
 use answer::{Count, Kind, Outcome, Place};
+use rule::choice::Choice;
 
 // The most good bytes that a text of so many bytes has.
+#[tactic(auto, using(rule::proofs::Readiness::small_product), unfolding(crate::specs::Room::most_of))]
 fn most(alphabet: usize, len: usize) -> usize
     requires { alphabet < 6 }
     ensures { result ≡ most_of alphabet len }
 {
-    let b = alphabet::sizes::bits(alphabet);
-    let l = engine::piece::limit();
-    if len < l {
-        return b * len / 8;
-    }
-    b * l / 8
+    alphabet::sizes::bits(alphabet) * len.min(engine::piece::limit()) / 8
 }
 
 // The room that the text needs: none where the room certainly suffices, else the good bytes, counted.
-fn needed(alphabet: usize, options: usize, text: &[u8], room: usize) -> usize
-    requires { Options.allowed alphabet options ≡ true }
-    ensures { result ≡ needed_of alphabet options text.now room }
+#[tactic(auto, using(reading::proofs::OptionLaws::allowed_alphabet, crate::proofs::RoomLaws::counted), unfolding(crate::specs::Room::needed_of))]
+fn needed(choice: Choice, text: &[u8], room: usize) -> usize
+    requires { Options.allowed choice.alphabet choice.options ≡ true }
+    ensures { result ≡ needed_of choice.alphabet choice.options text.now room }
 {
-    let len = text.len();
-    if most(alphabet, len) <= room {
+    if most(choice.alphabet, text.len()) <= room {
         return 0;
     }
-    let ran = engine::piece::count(alphabet, options, text);
-    ran.wrote
+    engine::piece::count(choice, text).wrote
 }
 
-pub fn read(alphabet: usize, options: usize, text: &[u8], out: &mut [u8]) -> Outcome
-    ensures { ReadAs alphabet options text.now out.old result out.new }
+#[tactic(auto, using(crate::proofs::Answers::promised_of, crate::proofs::RoomLaws::read_answers, crate::proofs::RoomLaws::read_gives))]
+pub fn read(choice: Choice, text: &[u8], out: &mut [u8]) -> Outcome
+    ensures { ReadAs choice.alphabet choice.options text.now out.old result out.new }
 {
-    if rule::choice::allowed(alphabet, options) {
-        let need = needed(alphabet, options, text, out.len());
-        if out.len() < need {
-            return Outcome::Refused(Kind::NoRoom(Place(0)), Count(need));
-        }
-        let start = rule::state::fresh();
-        let ran = engine::piece::run(alphabet, options, start, text, out);
-        return outcome(alphabet, options, ran);
+    if !choice.allowed() {
+        return Outcome::Refused(Kind::Choice, Count(0));
     }
-    Outcome::Refused(Kind::Choice, Count(0))
+    let need = needed(choice, text, out.len());
+    if out.len() < need {
+        return Outcome::Refused(Kind::NoRoom(Place(0)), Count(need));
+    }
+    let ran = engine::piece::run(choice, rule::state::fresh(), text, out);
+    outcome(choice, ran)
 }
 
-pub fn read_in_place(alphabet: usize, options: usize, buf: &mut [u8]) -> Outcome
-    ensures { InPlaceAs alphabet options buf.old result buf.new }
+#[tactic(auto, using(crate::proofs::Answers::promised_of, crate::proofs::Answers::count_answers, crate::proofs::Answers::in_place_gives))]
+pub fn read_in_place(choice: Choice, buf: &mut [u8]) -> Outcome
+    ensures { InPlaceAs choice.alphabet choice.options buf.old result buf.new }
 {
-    let ran = engine::piece::in_place(alphabet, options, buf);
-    outcome(alphabet, options, ran)
+    let ran = engine::piece::in_place(choice, buf);
+    outcome(choice, ran)
 }

@@ -1,13 +1,13 @@
 -- A run over a text that is made in parts, with room for as many bytes as the text has, which never lacks: what a part keeps of what was
 -- reached before it, and what is reached in the end. For the loop that counts and the loop in place. Assumes nothing.
-use Prim.Native.Nat.{ℕ, ◌+◌, ◌-◌, ◌<◌, ◌≤◌, zero-le}
+use Prim.Native.Nat.{ℕ, ◌+◌, ◌-◌, ◌<◌, ◌≤◌, min, zero-le}
 use mathlib.Core.Path.{◌≡◌, refl, sym, ap, ◌∙◌, subst}
 use mathlib.Core.Logic.{◌⊎◌, inl, inr}
-use mathlib.Core.Bool.{false}
+use mathlib.Core.Bool.{true, false}
 use mathlib.Core.List.{List, [], ◌++◌}
 use native.Mathlib.Omega.{arith}
 use lib.ListN.{length, take, drop, length-append, length-drop, take-append-drop}
-use lib.Seq.{length-take-le, drop-drop, drop-append-add}
+use lib.Seq.{length-take-le, drop-drop, drop-append-add, take-append_seam, take_at, drop-append_seam}
 use Rattle.reading.specs.Buffer.{filled}
 use Rattle.reading.specs.Piece as P
 use Rattle.reading.specs.Piece.{after, run}
@@ -23,7 +23,7 @@ use Rattle.rule.specs.Meaning.{state_of, core_of}
 use Rattle.engine.specs.Ran.{why_as, goes_on, then_as, ran_as, Ready}
 use Rattle.engine.specs.Loop.{Loop, Part}
 use Rattle.engine.proofs.Loops.{loop_begins, loop_all, rest_all, stored_lent}
-use Rattle.engine.proofs.Reaching.{all_or_not, goes_no_more, full_not_all, refused_not_all, then_after, all_is}
+use Rattle.engine.proofs.Reaching.{all_or_not, goes_on_law, goes_no_more, full_not_all, refused_not_all, then_after, all_is}
 
 -- i bytes are taken, the n bytes `wrote` are given, and n is never past i
 pub record Counting (a opts : ℕ) (text : List ℕ) (start k : Core) (i n : ℕ) (wrote : List ℕ) : Type 0 where
@@ -73,6 +73,12 @@ module _ {a opts : ℕ} {text : List ℕ} {start : Core} {s : Ran} where
             let d = loop_all h (f.goes w).loop (goes_no_more s.why s.took (length text) e w) in
             (all_is s w ∙ d.is, d.bytes)
         go (inr n) = (f.is n, f.bytes n)
+
+-- all of the text up to `rest` was taken, and the run goes on
+pub record Tallied (a opts : ℕ) (text : List ℕ) (start : Core) (rest : List ℕ) (s : Ran) : Type 0 where
+  pub count : Counted a opts text start s
+  pub all : s.why ≡ W.All
+  pub ahead : drop s.took text ≡ rest
 
 -- the run in place: the text is the buffer as it came
 pub record Settled (a opts : ℕ) (buf₀ : List ℕ) (start : Core) (buf : List ℕ) (s : Ran) : Type 0 where
@@ -185,6 +191,10 @@ module _ {a opts : ℕ} {text : List ℕ} {start : Core} {e room : ℕ} {wrote p
     counted_some =
         subst (λ (z : Ran). z.why ≡ W.All → 0 < z.took) (sym so) (λ x. omega (arith, did.all_took (goes_is q.why x), size, p.begins))
 
+    -- all of the part was taken, where it goes on
+    pub counted_all : r.why ≡ W.All → r.took ≡ length part
+    counted_all = subst (λ (z : Ran). z.why ≡ W.All → z.took ≡ length part) (sym so) (λ x. did.all_took (goes_is q.why x))
+
     -- in place: what the part gives follows what was given before, and every later byte is as it came
     pub settled_then : {buf out : List ℕ} → buf ≡ wrote ++ drop s.wrote text
         → out ≡ filled (run a opts part (state_of s.core) room).wrote (take (length buf - s.wrote) (drop s.wrote buf))
@@ -195,6 +205,60 @@ module _ {a opts : ℕ} {text : List ℕ} {start : Core} {e room : ℕ} {wrote p
         subst (λ (z : Ran). Settled a opts text start (take s.wrote buf ++ (out ++ drop (length buf - s.wrote) (drop s.wrote buf)))
         (then_as s z)) (sym so)
         (record { count = reached; front = stored_lent wrote q.wrote text f.loop.size front lent })
+
+-- ---- a text that is cut into parts: a part stands first in what lies ahead, and `more` is left after it
+
+module _ {a opts : ℕ} {text : List ℕ} {start : Core} {ahead : List ℕ} {s : Ran} (part more : List ℕ) (f : Tallied a opts text start ahead s)
+    {size : ℕ} (fixed : size ≡ 256) (cut : (ahead ≡ part ++ more) × (length part ≡ min size (length ahead)) × (0 < length ahead)) where
+  g : Counting a opts text start s.core s.took s.wrote f.count.wrote
+  g = f.count.goes f.all
+
+  from : drop s.took text ≡ part ++ more
+  from = f.ahead ∙ cut.0
+
+  chunk : Part s.took (s.took + length part) (length text)
+  chunk = record {
+    begins = omega arith;
+    within = omega (arith, g.loop.within, ap length from, length-drop s.took text, length-append part more);
+    small = omega arith;
+  }
+
+  is : part ≡ take (s.took + length part - s.took) (drop s.took text)
+  is = sym (take-append_seam part more) ∙ ap (take (length part)) (sym from) ∙ ap (λ (n : ℕ). take n (drop s.took text)) (omega arith)
+
+  few : length part ≤ 256
+  few = omega arith
+
+  pub tallied_ready : Ready a start (length text) → Ready a s.core (length part)
+  tallied_ready r = subst (λ (l : List ℕ). Ready a s.core (length l)) (sym is) (part_ready g chunk r)
+
+  module _ {r : Ran} (h : a < 6) (told : r ≡ ran_as (run a opts part (state_of s.core) 256)) where
+    pub tallied_then : Counted a opts text start (then_as s r)
+    tallied_then = counted_then s h g chunk is few told
+
+    -- where it goes on, all of the part was taken
+    pub tallied_more : {q : Ran} → q ≡ then_as s r → goes_on q.why q.took (length text) ≡ true → Tallied a opts text start more q
+    tallied_more {q} e on =
+        let w : r.why ≡ W.All = ap (λ (z : Ran). z.why) (sym e) ∙ (goes_on_law q.why q.took (length text) on).0 in
+        subst (Tallied a opts text start more) (sym e) (record {
+          count = tallied_then;
+          all = w;
+          ahead = ap (λ (n : ℕ). drop (s.took + n) text) (counted_all s h g chunk is few told w)
+              ∙ sym (drop-drop (length part) s.took text)
+              ∙ ap (drop (length part)) from
+              ∙ drop-append_seam part more;
+        })
+
+pub tallied_begins : {a opts : ℕ} {text : List ℕ} {start : Core} {s : Ran} → s ≡ record { core = start; why = W.All; took = 0; wrote = 0 }
+    → Ready a start (length text) → Tallied a opts text start text s
+tallied_begins {a} {opts} {text} {start} e r =
+    subst (Tallied a opts text start text) (sym e) (record { count = fresh_count r; all = refl; ahead = refl })
+
+-- nothing is left
+pub tallied_done : {a opts : ℕ} {text : List ℕ} {start : Core} {ahead : List ℕ} {s : Ran} → a < 6 → Tallied a opts text start ahead s
+    → length ahead ≡ 0 → s ≡ ran_as (run a opts text (state_of start) (length text))
+tallied_done {text = text} {s = s} h f e =
+    all_is s f.all ∙ (loop_all h (f.count.goes f.all).loop (omega (arith, length-drop s.took text, ap length f.ahead))).is
 
 -- ---- what the loop in place reads
 
@@ -235,17 +299,14 @@ module _ {a opts : ℕ} {buf₀ : List ℕ} {start : Core} {buf : List ℕ} {s :
         ∙ drop-drop (s.took - s.wrote) s.wrote buf₀
         ∙ ap (λ (m : ℕ). drop m buf₀) j
 
-    pub settled_reads : length (take (e - s.took) (drop s.took buf)) ≡ e - s.took
+    settled_reads : length (take (e - s.took) (drop s.took buf)) ≡ e - s.took
     settled_reads = rw ahead (part_size c settled_ends)
 
-    module _ (aside : List ℕ) (copied : take (length (take (e - s.took) (drop s.took buf))) aside ≡ take (e - s.took)
-        (drop s.took buf)) where
-      pub settled_part : take (e - s.took) aside ≡ take (e - s.took) (drop s.took buf₀)
-      settled_part = ap (λ (m : ℕ). take m aside) (sym settled_reads) ∙ copied ∙ ap (take (e - s.took)) ahead
+    -- and it is put aside, at the front
+    module _ (aside behind : List ℕ) (copied : aside ≡ take (e - s.took) (drop s.took buf)) where
+      pub settled_part : take (e - s.took) (aside ++ behind) ≡ take (e - s.took) (drop s.took buf₀)
+      settled_part = take_at aside behind (e - s.took) (ap length copied ∙ settled_reads) ∙ copied ∙ ap (take (e - s.took)) ahead
 
-      pub settled_whole : length (take (e - s.took) aside) ≡ e - s.took
-      settled_whole = ap length settled_part ∙ part_size c settled_ends
-
-      pub settled_fits : length (take (e - s.took) aside) ≤ length (take (length buf - s.wrote) (drop s.wrote buf))
-      settled_fits = rw (settled_whole, rest_all buf s.wrote, length-drop s.wrote buf)
+      pub settled_fits : length (take (e - s.took) (aside ++ behind)) ≤ length (take (length buf - s.wrote) (drop s.wrote buf))
+      settled_fits = rw (settled_part, part_size c settled_ends, rest_all buf s.wrote, length-drop s.wrote buf)
           (omega (arith, c.behind, p.begins, p.within))

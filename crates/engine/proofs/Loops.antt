@@ -7,7 +7,7 @@ use native.Mathlib.Omega.{arith}
 use lib.ListN.{length, take, drop, get_or, set, length-append, length-drop, drop_of_length-le}
 use lib.Seq.{take_all, set_at, take_at, drop_at, drop-cons, drop-drop}
 use native.Mathlib.Numerals.{add-one}
-use Rattle.reading.specs.Reader.{takes, gives, step}
+use Rattle.reading.specs.Reader.{takes, gives, refuses, step}
 use Rattle.reading.specs.Sound.{Sound}
 use Rattle.reading.specs.Piece.{after, run}
 use Rattle.reading.proofs.StepLaws.{Next, Keeps, keeps}
@@ -15,12 +15,10 @@ use Rattle.reading.proofs.RunSteps.{Going, after_after, begins, goes_on_law, giv
 use Rattle.rule.specs.declared.Core.{Core}
 use Rattle.rule.specs.declared.Cause.{Cause}
 use Rattle.rule.proofs.Causes.{cause_back}
-use Rattle.engine.specs.declared.step.Took.{Took}
-use Rattle.engine.specs.declared.step.Took.TheVariants.{Takes, Gives, Refuses}
 use Rattle.engine.specs.declared.piece.Why.TheVariants as W
 use Rattle.engine.specs.declared.piece.Ran.{Ran}
-use Rattle.rule.specs.Meaning.{state_of}
-use Rattle.engine.specs.Meaning.{step_of, Fit}
+use Rattle.rule.specs.Meaning.{state_of, number}
+use Rattle.engine.specs.Meaning.{Fit}
 use Rattle.reading.specs.Buffer.{filled}
 use Rattle.engine.specs.Ran.{why_as, ran_as, Ready}
 use Rattle.engine.specs.Loop.{Loop, Filling}
@@ -49,33 +47,31 @@ module _ {a opts : ℕ} {piece : List ℕ} {start : Core} {room : ℕ} {k : Core
   kept : (c : ℕ) → Keeps a (state_of k) (step a opts (state_of k) c)
   kept c = keeps a h (state_of k) g.sound opts c
 
-  module _ {t : Took} (l : i < length piece) (e : step_of t ≡ step a opts (state_of k) (get_or piece i 0)) where
-    pub loop_takes : {k' : Core} → t ≡ Takes k' → Loop a opts piece start room k' (i + 1) n wrote
-    loop_takes {k'} q =
-        let f : step a opts (state_of k) (get_or piece i 0) ≡ takes (state_of k') = sym e ∙ ap step_of q in
-        let m : Next a (state_of k) (state_of k') = subst (Keeps a (state_of k)) f (kept (get_or piece i 0)) in
-        looped (goes_on_law (going g) l f) m.sound (omega (arith, m.one, g.place))
+  module _ (l : i < length piece) where
+    pub loop_takes : {k' : Core} → step a opts (state_of k) (get_or piece i 0) ≡ takes (state_of k')
+        → Loop a opts piece start room k' (i + 1) n wrote
+    loop_takes {k'} e =
+        let m : Next a (state_of k) (state_of k') = subst (Keeps a (state_of k)) e (kept (get_or piece i 0)) in
+        looped (goes_on_law (going g) l e) m.sound (omega (arith, m.one, g.place))
 
-    pub given : {k' : Core} {x : ℕ} → t ≡ Gives x k' → step a opts (state_of k) (get_or piece i 0) ≡ gives x (state_of k')
-    given q = sym e ∙ ap step_of q
+    pub loop_gives : {k' : Core} {x : ℕ} → step a opts (state_of k) (get_or piece i 0) ≡ gives x (state_of k') → n < room
+        → Loop a opts piece start room k' (i + 1) (n + 1) (wrote ++ x ∷ [])
+    loop_gives {k'} {x} e r =
+        let m : Next a (state_of k) (state_of k') × (x < 256) = subst (Keeps a (state_of k)) e (kept (get_or piece i 0)) in
+        looped (gives_one (going g) l r e) m.0.sound (omega (arith, m.0.one, g.place))
 
-    pub loop_gives : {k' : Core} {x : ℕ} → t ≡ Gives x k' → n < room → Loop a opts piece start room k' (i + 1) (n + 1) (wrote ++ x ∷ [])
-    loop_gives {k'} {x} q r =
-        let m : Next a (state_of k) (state_of k') × (x < 256) = subst (Keeps a (state_of k)) (given q) (kept (get_or piece i 0)) in
-        looped (gives_one (going g) l r (given q)) m.0.sound (omega (arith, m.0.one, g.place))
-
-    pub loop_full : {k' : Core} {x : ℕ} → t ≡ Gives x k' → n ≡ room
+    pub loop_full : {k' : Core} {x : ℕ} → step a opts (state_of k) (get_or piece i 0) ≡ gives x (state_of k') → n ≡ room
         → Done a opts piece start room (record { core = k; why = W.Full; took = i; wrote = n }) wrote
     unfolding why_as
-    loop_full q r =
-        let o = is_full (going g) l r (given q) in
+    loop_full e r =
+        let o = is_full (going g) l r e in
         record { is = rw (o.is, g.size); bytes = rw o.is }
 
-    pub loop_refused : {c : Cause} → t ≡ Refuses c
+    pub loop_refused : {c : Cause} → step a opts (state_of k) (get_or piece i 0) ≡ refuses (number c)
         → Done a opts piece start room (record { core = k; why = W.Refused c; took = i; wrote = n }) wrote
     unfolding why_as
-    loop_refused {c} q =
-        let o = is_refused (going g) l (sym e ∙ ap step_of q) in
+    loop_refused {c} e =
+        let o = is_refused (going g) l e in
         record { is = rw (o.is, g.size, cause_back c); bytes = rw o.is }
 
   pub loop_all : length piece ≤ i → Done a opts piece start room (record { core = k; why = W.All; took = i; wrote = n }) wrote
@@ -139,17 +135,17 @@ module _ {a opts : ℕ} {piece : List ℕ} {start : Core} {out₀ out : List ℕ
             (omega (arith, f.loop.within, f.loop.place, r.within));
       }
 
-  pub filling_takes : {t : Took} {k' : Core} → i < length piece → step_of t ≡ step a opts (state_of k) (get_or piece i 0) → t ≡ Takes k'
+  pub filling_takes : {k' : Core} → i < length piece → step a opts (state_of k) (get_or piece i 0) ≡ takes (state_of k')
       → Filling a opts piece start out₀ out k' (i + 1) n
-  filling_takes l e q = record { wrote = f.wrote; loop = loop_takes h f.loop l e q; front = f.front }
+  filling_takes {k'} l e = record { wrote = f.wrote; loop = loop_takes h f.loop l {k' = k'} e; front = f.front }
 
-  pub filling_gives : {t : Took} {k' : Core} {x : ℕ} → i < length piece → step_of t ≡ step a opts (state_of k) (get_or piece i 0)
-      → t ≡ Gives x k' → n < length out₀
+  pub filling_gives : {k' : Core} {x : ℕ} → i < length piece → step a opts (state_of k) (get_or piece i 0) ≡ gives x (state_of k')
+      → n < length out₀
       → Filling a opts piece start out₀ (set out n x) k' (i + 1) (n + 1)
-  filling_gives {x = x} l e q r =
+  filling_gives {k'} {x} l e r =
       record {
         wrote = f.wrote ++ x ∷ [];
-        loop = loop_gives h f.loop l e q r;
+        loop = loop_gives h f.loop l {k' = k'} e r;
         front = ap (λ (o : List ℕ). set o n x) f.front ∙ stored f.wrote out₀ n x f.loop.size r;
       }
 

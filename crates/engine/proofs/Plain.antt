@@ -1,6 +1,6 @@
 -- What holds at the head of the loop over digits as they stand, that a digit keeps it, and what it gives at the end. Assumes nothing.
 use Prim.Native.Nat.{ℕ, ◌+◌, ◌-◌, ◌*◌, ◌/◌, ◌%◌, ◌^◌, ◌<◌, ◌≤◌}
-use mathlib.Core.Path.{◌≡◌, refl, sym, ap, ◌∙◌, subst}
+use mathlib.Core.Path.{◌≡◌, sym, ap, ◌∙◌, subst}
 use mathlib.Core.Bool.{true}
 use mathlib.Core.List.{List}
 use native.Mathlib.Nat.{add-zero, add_assoc, mod-lt, mod-eq_of_lt, lt_of_lt_of_le}
@@ -19,11 +19,10 @@ use Rattle.reading.specs.Options.{allowed}
 use Rattle.reading.specs.Limit.{limit}
 use Rattle.reading.specs.Reader.{takes, gives, held_bits}
 use Rattle.reading.proofs.LimitLaws.{limit_small}
-use Rattle.reading.proofs.OptionLaws.{strict_allowed}
+use Rattle.reading.proofs.OptionLaws.{allowed_alphabet, strict_allowed}
 use Rattle.reading.proofs.StepLaws.{held_then, left_then}
 use Rattle.reading.proofs.StepCases.{Stands, stands}
 use Rattle.rule.specs.declared.Core.{Core}
-use Rattle.engine.specs.declared.step.Took.TheVariants.{Takes, Gives}
 use Rattle.engine.specs.declared.digits.Passed.{Passed}
 use Rattle.rule.specs.Meaning.{state_of}
 use Rattle.engine.specs.Meaning.{Fit}
@@ -40,9 +39,6 @@ pub record Plain (a : ℕ) (start : Core) (piece out₀ out : List ℕ) (h r i n
 
 pub digits_below : {a : ℕ} {k : Core} {m : ℕ} → Ready a k m → k.digits ≤ limit
 digits_below q = omega (arith, q.sound.digits, q.within)
-
-pub plain_fit : {a : ℕ} {k : Core} {m : ℕ} → Ready a k m → m < 2 ^ 40
-plain_fit q = omega (arith, q.within, limit_small)
 
 pub plain_begins : (a : ℕ) (k : Core) (piece out : List ℕ) → Ready a k (length piece) → k.pads ≡ 0 → {r : ℕ} → r ≡ bits a * k.digits % 8
     → Plain a k piece out out k.held r 0 0
@@ -97,7 +93,7 @@ module _ {a : ℕ} {start : Core} {piece out₀ out : List ℕ} {h r i n : ℕ} 
     now_fit : Fit a (core_at start h r i)
     now_fit = fit x strict.loop q l
 
-    pub byte_small : v < 256
+    byte_small : v < 256
     byte_small = lt_of_lt_of_le small (pow_mono {j = 8} (omega (arith, bits_high a x)))
 
     wide : bits a < 8
@@ -119,11 +115,10 @@ module _ {a : ℕ} {start : Core} {piece out₀ out : List ℕ} {h r i n : ℕ} 
           few = sym (held_then a x (state_of k) strict.loop.sound (rw (← f.few) s) ∙ ap (λ (z : ℕ). z + bits a) (sym f.few))
               ∙ rw add_assoc;
           fills = λ opts w.
-              filling_takes x (f.fills opts w) {t = Takes (core_at start y (r + bits a) (i + 1))} l
-              (ap (λ (c : Core). takes (state_of c)) (next y (r + bits a))
+              filling_takes x (f.fills opts w) {k' = core_at start y (r + bits a) (i + 1)} l
+              (sym (ap (λ (c : Core). takes (state_of c)) (next y (r + bits a))
               ∙ digit_held a x k now_fit small (omega arith) (ap (λ (z : ℕ). fed (bits a) z (h % 2 ^ r) v) (sym f.few) ∙ held)
-              ∙ sym (plain_digit opts w).is)
-              refl;
+              ∙ sym (plain_digit opts w).is));
         }
 
     gives_byte : (b : ℕ) → r + bits a ≡ 8 + b → n < length out₀
@@ -145,11 +140,11 @@ module _ {a : ℕ} {start : Core} {piece out₀ out : List ℕ} {h r i n : ℕ} 
                 start.digits i 1,
           );
           fills = λ opts w.
-              filling_gives x (f.fills opts w) {t = Gives o (core_at start y b (i + 1))} l
-              (ap (λ (c : Core). gives o (state_of c)) (next y b)
+              filling_gives x (f.fills opts w) {k' = core_at start y b (i + 1)} l
+              (sym (ap (λ (c : Core). gives o (state_of c)) (next y b)
               ∙ digit_gives a x k now_fit small (omega arith) (ap (λ (z : ℕ). fed (bits a) z (h % 2 ^ r) v) (sym f.few) ∙ held)
-              ∙ sym (plain_digit opts w).is)
-              refl room;
+              ∙ sym (plain_digit opts w).is))
+              room;
         }
 
     -- the same as the code has it, where b is the width and a shift joins the bits
@@ -167,3 +162,6 @@ module _ {a : ℕ} {start : Core} {piece out₀ out : List ℕ} {h r i n : ℕ} 
 
       pub plain_joins : h * 2 ^ b % 2 ^ 64 + v < 2 ^ 17
       plain_joins = rw (w, shift) (omega (arith, byte_small, shifted_lt h (bits a) f.byte (omega (arith, wide))))
+
+-- for the loop's own goals
+pub ruleset plain_so_far = (allowed_alphabet, bits_high, plain_few, plain_size, plain_fits, plain_passes)

@@ -8,24 +8,26 @@ use native.Mathlib.Omega.{arith}
 use lib.Dec.{T, ltb}
 use lib.ListN.{length, take, drop, get_or, length-append, length-drop}
 use borrow.Author.Tests.{ltb-true, ltb-false}
+use Rattle.std.specs.Prelude.{Option, None, Some, Result, Ok, Err}
 use Rattle.reading.specs.Buffer.{filled}
 use Rattle.reading.specs.Reader.{gives, step}
 use Rattle.reading.specs.Piece as P
 use Rattle.reading.specs.Piece.{after, run}
+use Rattle.reading.proofs.LimitLaws.{limit_small}
+use Rattle.reading.proofs.OptionLaws.{allowed_alphabet}
 use Rattle.reading.proofs.PieceLaws.{run_feeds}
 use Rattle.rule.specs.declared.Core.{Core}
 use Rattle.rule.specs.declared.Cause.{Cause}
-use Rattle.engine.specs.declared.step.Took.{Took}
-use Rattle.engine.specs.declared.step.Took.TheVariants.{Takes, Gives, Refuses}
+use Rattle.engine.specs.declared.step.Taken.{Taken}
 use Rattle.engine.specs.declared.digits.Passed.{Passed}
 use Rattle.engine.specs.declared.piece.Why.{Why}
 use Rattle.engine.specs.declared.piece.Why.TheVariants as W
 use Rattle.engine.specs.declared.piece.Ran.{Ran}
 use Rattle.rule.specs.Meaning.{state_of, core_of}
-use Rattle.engine.specs.Meaning.{step_of}
+use Rattle.engine.specs.Meaning.{taken_of, step_of}
 use Rattle.engine.specs.Ran.{why_as, goes_on, then_as, ran_as, Ready}
-use Rattle.engine.specs.Loop.{Filling, Reached, Stretch, put_as, put_in}
-use Rattle.engine.proofs.Loops.{filling_begins, filling_lent, filling_takes, filling_gives, filling_done, same_size, loop_full}
+use Rattle.engine.specs.Loop.{Filling, Reached, Stretch, taken_as, put_as, taken_in, put_in}
+use Rattle.engine.proofs.Loops.{filling_begins, filling_lent, filling_takes, filling_gives, filling_done, same_size, fit, loop_full}
 use Rattle.engine.proofs.Loops.{loop_refused, loop_all, rest_all, stored_lent}
 
 -- ---- whether it goes on
@@ -112,12 +114,12 @@ module _ {a opts : ℕ} {k : Core} {piece out₀ out : List ℕ} where
       record { reached = record { goes = λ x. absurd (not x); is = λ x. d.0; bytes = λ x. d.1 }; some = λ x. absurd (not x) }
 
 -- a byte after digits
-pub stretch_put : {a opts : ℕ} {k : Core} {piece out₀ out : List ℕ} {p : Passed} {r : Ran} {room : ℕ} {out' : List ℕ} (byte : Took) → a < 6
-    → Filling a opts piece k out₀ out p.core p.took p.wrote → p.took < length piece
+pub stretch_put : {a opts : ℕ} {k : Core} {piece out₀ out : List ℕ} {p : Passed} {r : Ran} {room : ℕ} {out' : List ℕ} (byte : Result Taken Cause)
+    → a < 6 → Filling a opts piece k out₀ out p.core p.took p.wrote → p.took < length piece
     → step_of byte ≡ step a opts (state_of p.core) (get_or piece p.took 0) → room ≡ length out → r ≡ put_as p byte room
     → out' ≡ put_in p byte out
     → Stretch a opts k piece out₀ out' r
-unfolding put_as put_in
+unfolding put_as put_in taken_as taken_in
 stretch_put {a} {opts} {k} {piece} {out₀} {out} {p} {r} {room} {out'} byte h f l e z is o =
     subst (λ (x : List ℕ). Stretch a opts k piece out₀ x r) (sym o) (go byte e is)
   where
@@ -128,24 +130,29 @@ stretch_put {a} {opts} {k} {piece} {out₀} {out} {p} {r} {room} {out'} byte h f
     full = record { core = p.core; why = W.Full; took = p.took; wrote = p.wrote }
 
     -- a byte given, where there is room and where there is none
-    room_or_not : (x : ℕ) (c : Core) → gives x (state_of c) ≡ step a opts (state_of p.core) (get_or piece p.took 0)
-        → r ≡ put_as p (Gives x c) room
-        → (t : Bool) → ltb p.wrote room ≡ t → Stretch a opts k piece out₀ (put_in p (Gives x c) out) r
+    room_or_not : (x : ℕ) (c : Core) → step a opts (state_of p.core) (get_or piece p.took 0) ≡ gives x (state_of c)
+        → r ≡ taken_as p c (Some x) room
+        → (t : Bool) → ltb p.wrote room ≡ t → Stretch a opts k piece out₀ (taken_in p (Some x) out) r
     room_or_not x c e is true q =
         rw (← z, q)
-        (stretch_goes (is ∙ rw q) (filling_gives h f {t = Gives x c} l e refl (omega (arith, ltb-true p.wrote room q, size)))
+        (stretch_goes (is ∙ rw q) (filling_gives h f {k' = c} l e (omega (arith, ltb-true p.wrote room q, size)))
         (λ n. omega arith))
     room_or_not x c e is false q =
         rw (← z, q)
         (stretch_stops {r = full} (is ∙ rw q) full_not_all
         (filling_done h f {r = full} (is ∙ rw q)
-        (loop_full h f.loop {t = Gives x c} l e refl (omega (arith, ltb-false p.wrote room q, size, f.loop.fits)))))
+        (loop_full h f.loop l {k' = c} e (omega (arith, ltb-false p.wrote room q, size, f.loop.fits)))))
 
-    go : (b : Took) → step_of b ≡ step a opts (state_of p.core) (get_or piece p.took 0) → r ≡ put_as p b room
+    taken : (c : Core) (x : Option ℕ) → taken_of (state_of c) x ≡ step a opts (state_of p.core) (get_or piece p.took 0)
+        → r ≡ taken_as p c x room
+        → Stretch a opts k piece out₀ (taken_in p x out) r
+    taken c None e is = stretch_goes is (filling_takes h f {k' = c} l (sym e)) (λ n. omega arith)
+    taken c (Some x) e is = room_or_not x c (sym e) is (ltb p.wrote room) refl
+
+    go : (b : Result Taken Cause) → step_of b ≡ step a opts (state_of p.core) (get_or piece p.took 0) → r ≡ put_as p b room
         → Stretch a opts k piece out₀ (put_in p b out) r
-    go (Takes c) e is = stretch_goes is (filling_takes h f {t = Takes c} l e refl) (λ n. omega arith)
-    go (Gives x c) e is = room_or_not x c e is (ltb p.wrote room) refl
-    go (Refuses c) e is = stretch_stops is refused_not_all (filling_done h f is (loop_refused h f.loop {t = Refuses c} l e refl))
+    go (Ok t) e is = taken t.core t.byte e is
+    go (Err c) e is = stretch_stops is refused_not_all (filling_done h f is (loop_refused h f.loop l {c = c} (sym e)))
 
 module _ {a opts : ℕ} {start : Core} {piece out₀ out : List ℕ} {s : Ran} (h : a < 6) (f : Reached a opts start piece out₀ out s) where
   pub reached_size : length out ≡ length out₀
@@ -201,3 +208,8 @@ module _ {a opts : ℕ} {start : Core} {piece out₀ out : List ℕ} {s : Ran} (
           let d = loop_all h p.loop (goes_no_more s.why s.took (length piece) e w) in
           (all_is s w ∙ d.is, rw (d.bytes, p.loop.size) p.front)
       go (inr n) = (f.is n, f.bytes n)
+
+-- for the functions' own goals
+pub ruleset stretch_fits = (allowed_alphabet, limit_small, same_size, fit, stretch_goes)
+
+pub ruleset reached_fits = (allowed_alphabet, limit_small, goes_on_law, reached_begins, reached_size, reached_sums)

@@ -1,12 +1,12 @@
 -- What holds where a part of a run is done, for the contracts of the loops over a piece. Assumes nothing.
-use Rattle.std.specs.Prelude.{ℕ, ◌+◌, ◌-◌, ◌%◌, ◌<◌, ◌≤◌, ◌^◌, ◌≡◌, true, cond, List, ◌++◌, ltb, length, drop, set}
+use Rattle.std.specs.Prelude.{ℕ, ◌+◌, ◌-◌, ◌%◌, ◌<◌, ◌≤◌, ◌^◌, ◌≡◌, true, cond, List, ◌++◌, ltb, length, drop, set, Option, None, Some, Result, Ok, Err}
 use Rattle.reading.specs.Options.{allowed}
 use Rattle.reading.specs.Sound.{Sound}
 use Rattle.reading.specs.Buffer.{filled}
 use Rattle.reading.specs.Piece.{after, run}
 use Rattle.rule.specs.declared.Core.{Core}
-use Rattle.engine.specs.declared.step.Took.{Took}
-use Rattle.engine.specs.declared.step.Took.TheVariants as T
+use Rattle.rule.specs.declared.Cause.{Cause}
+use Rattle.engine.specs.declared.step.Taken.{Taken}
 use Rattle.engine.specs.declared.digits.Passed.{Passed}
 use Rattle.engine.specs.declared.piece.Why.TheVariants as W
 use Rattle.engine.specs.declared.piece.Ran.{Ran}
@@ -56,17 +56,23 @@ pub record Part (i e len : ℕ) : Type 0 where
   pub within : e ≤ len
   pub small : e ≤ i + 256
 
--- what a byte does after digits, in so much room
-unfoldable pub put_as : Passed → Took → ℕ → Ran
-put_as p (T.Takes c) room = record { core = c; why = W.All; took = p.took + 1; wrote = p.wrote }
-put_as p (T.Gives x c) room =
+-- what a byte does after digits, in so much room: it is taken, and may complete a byte, or it is refused
+unfoldable pub taken_as : Passed → Core → Option ℕ → ℕ → Ran
+taken_as p c None room = record { core = c; why = W.All; took = p.took + 1; wrote = p.wrote }
+taken_as p c (Some x) room =
     cond (ltb p.wrote room)
     (record { core = c; why = W.All; took = p.took + 1; wrote = p.wrote + 1 })
     (record { core = p.core; why = W.Full; took = p.took; wrote = p.wrote })
-put_as p (T.Refuses e) room = record { core = p.core; why = W.Refused e; took = p.took; wrote = p.wrote }
+
+unfoldable pub put_as : Passed → Result Taken Cause → ℕ → Ran
+put_as p (Ok t) room = taken_as p t.core t.byte room
+put_as p (Err e) room = record { core = p.core; why = W.Refused e; took = p.took; wrote = p.wrote }
 
 -- and the buffer then
-unfoldable pub put_in : Passed → Took → List ℕ → List ℕ
-put_in p (T.Takes c) out = out
-put_in p (T.Gives x c) out = cond (ltb p.wrote (length out)) (set out p.wrote x) out
-put_in p (T.Refuses e) out = out
+unfoldable pub taken_in : Passed → Option ℕ → List ℕ → List ℕ
+taken_in p None out = out
+taken_in p (Some x) out = cond (ltb p.wrote (length out)) (set out p.wrote x) out
+
+unfoldable pub put_in : Passed → Result Taken Cause → List ℕ → List ℕ
+put_in p (Ok t) out = taken_in p t.byte out
+put_in p (Err e) out = out

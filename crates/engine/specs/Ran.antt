@@ -7,6 +7,7 @@ use Rattle.reading.specs.Reader.{fresh}
 use Rattle.reading.specs.Sound.{Sound}
 use Rattle.reading.specs.Piece as P
 use Rattle.reading.specs.Piece.{run_piece}
+use Rattle.rule.specs.declared.choice.Choice.{Choice}
 use Rattle.rule.specs.declared.Core.{Core}
 use Rattle.rule.specs.declared.Cause.TheVariants as C
 use Rattle.engine.specs.declared.piece.Why.{Why}
@@ -33,6 +34,10 @@ then_as q r = record { core = r.core; why = r.why; took = q.took + r.took; wrote
 
 abbrev pub ran_as : P.Ran → Ran
 ran_as r = record { core = core_of r.state; why = why_as r.why; took = r.took; wrote = length r.wrote }
+
+-- a run under a choice, from a state of the code
+abbrev pub run_by : Choice → Core → List ℕ → ℕ → P.Ran
+run_by c k piece room = P.run c.alphabet c.options piece (state_of k) room
 
 -- how many of so many bytes lie below the limit
 unfoldable pub below : ℕ → ℕ → ℕ

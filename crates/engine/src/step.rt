@@ -1,115 +1,95 @@
 // What one byte does in a state, in the order of 01's (b) to (f).
 ghost use Rattle.std.specs.Prelude.{◌≡◌, ◌<◌, ◌^◌};
 ghost use Rattle.alphabet.specs.Alphabet as Alphabet;
-ghost use Rattle.table.specs.Table.{entries};
 ghost use Rattle.reading.specs.Reader as Reader;
 ghost use Rattle.rule.specs.Meaning.{state_of};
 ghost use Rattle.engine.specs.Meaning.{step_of, Fit};
 
-use regroup::Fed;
-use rule::choice::chosen;
-use rule::{Cause, Core, dropped, turned, wants};
+use crate::rules::Rules;
+use rule::choice::SPARE;
+use rule::{Cause, Core};
 use table::Symbol;
 
-// What a byte does: it is taken, it completes a byte, or it is refused.
-#[derive(Clone, Copy)]
-pub enum Took {
-    Takes(Core),
-    Gives(u8, Core),
-    Refuses(Cause),
+// A byte that is taken: the state then, and the byte of source that it completes, if it does.
+#[derive(Clone, Copy, PartialEq, Eq)]
+pub struct Taken {
+    pub core: Core,
+    pub byte: Option<u8>,
 }
 
-// A digit of value v and b bits: after padding it is refused; else its bits join the held ones, and perhaps complete a byte.
-fn on_digit(alphabet: usize, b: usize, k: Core, v: u8) -> Took
-    requires b_value { b ≡ Alphabet.bits alphabet }
-    requires alphabet_bound { alphabet < 6 }
-    requires fit { Fit alphabet k }
-    requires v_bound { v < 2 ^ Alphabet.bits alphabet }
-    ensures { step_of result ≡ Reader.on_digit alphabet (state_of k) v }
-{
-    let digits = k.digits;
-    let held = k.held;
-    let pads = k.pads;
-    let taken = k.taken;
-    if 0 < pads {
-        return Took::Refuses(Cause::AfterPad);
-    }
-    let r = b * digits % 8;
-    let d = digits + 1;
-    let next = taken + 1;
-    match regroup::feed(b, r, held, v) {
-        Fed::Held(h) => Took::Takes(Core {
-            digits: d,
-            held: h,
-            pads: 0,
-            taken: next,
-        }),
-        Fed::Byte(x, h) => Took::Gives(
-            x,
-            Core {
-                digits: d,
-                held: h,
+impl Rules {
+    // A digit of the value v: after padding it is refused; else its bits join the held ones, and perhaps complete a byte.
+    #[tactic(auto, using(crate::proofs::Steps::digit_sums), unfolding(reading::specs::Reader::on_digit, rule::specs::Meaning::number))]
+    fn on_digit(&self, k: Core, v: u8) -> Result<Taken, Cause>
+        requires fit { Fit self.now.choice.alphabet k }
+        requires v_bound { v < 2 ^ Alphabet.bits self.now.choice.alphabet }
+        ensures { step_of result ≡ Reader.on_digit self.now.choice.alphabet (state_of k) v }
+    {
+        if 0 < k.pads {
+            return Err(Cause::AfterPad);
+        }
+        let bits = alphabet::sizes::bits(self.choice.alphabet);
+        let fed = regroup::feed(bits, bits * k.digits % 8, k.held, v);
+        Ok(Taken {
+            core: Core {
+                digits: k.digits + 1,
+                held: fed.held,
                 pads: 0,
-                taken: next,
+                taken: k.taken + 1,
             },
-        ),
+            byte: fed.byte,
+        })
     }
-}
 
-// A pad: complete padding and a digit count outside the table refuse it, and so do spare bits without SPARE.
-fn on_pad(alphabet: usize, options: usize, k: Core) -> Took
-    requires alphabet_bound { alphabet < 6 }
-    requires fit { Fit alphabet k }
-    ensures { step_of result ≡ Reader.on_pad alphabet options (state_of k) }
-{
-    let digits = k.digits;
-    let held = k.held;
-    let pads = k.pads;
-    let taken = k.taken;
-    let w = wants(alphabet, digits);
-    let more = Core {
-        digits,
-        held,
-        pads: pads + 1,
-        taken: taken + 1,
-    };
-    if 0 < pads {
-        if pads == w {
-            return Took::Refuses(Cause::AfterPad);
+    // A pad: complete padding and a digit count outside the table refuse it, and so do spare bits without SPARE.
+    #[tactic(auto, using(crate::proofs::Steps::sums), unfolding(reading::specs::Reader::on_pad, reading::specs::Reader::wants, rule::specs::Meaning::number))]
+    fn on_pad(&self, k: Core) -> Result<Taken, Cause>
+        requires { Fit self.now.choice.alphabet k }
+        ensures { step_of result ≡ Reader.on_pad self.now.choice.alphabet self.now.choice.options (state_of k) }
+    {
+        let wants = self.choice.wants(k.digits);
+        if 0 < k.pads {
+            if k.pads == wants {
+                return Err(Cause::AfterPad);
+            }
+        } else {
+            if wants == 0 {
+                return Err(Cause::PadPlace);
+            }
+            if k.held != 0 && !self.choice.chosen(SPARE) {
+                return Err(Cause::Spare);
+            }
         }
-        return Took::Takes(more);
+        Ok(Taken {
+            core: Core {
+                pads: k.pads + 1,
+                taken: k.taken + 1,
+                ..k
+            },
+            byte: None,
+        })
     }
-    if w == 0 {
-        return Took::Refuses(Cause::PadPlace);
-    }
-    if held == 0 {
-        return Took::Takes(more);
-    }
-    if chosen(8, options) {
-        return Took::Takes(more);
-    }
-    Took::Refuses(Cause::Spare)
-}
 
-// What any byte does. It is asked of bytes that are no digit as they stand, since `digits.rt` takes those that are.
-pub(crate) fn rare(t: &[u8; 1536], alphabet: usize, options: usize, k: Core, byte: u8) -> Took
-    requires t_value { t.now ≡ entries }
-    requires alphabet_bound { alphabet < 6 }
-    requires fit { Fit alphabet k }
-    ensures { step_of result ≡ Reader.step alphabet options (state_of k) byte }
-{
-    if dropped(options, byte) {
-        let mut passed = k;
-        passed.taken = k.taken + 1;
-        return Took::Takes(passed);
-    }
-    let turn = turned(alphabet, options, byte);
-    match table::lookup(t, alphabet, turn) {
-        Symbol::Digit(v) => {
-            let b = alphabet::sizes::bits(alphabet);
-            on_digit(alphabet, b, k, v)
+    // What any byte does. It is asked of bytes that are no digit as they stand, since `digits.rt` takes those that are.
+    #[tactic(auto, using(crate::proofs::Steps::sums, reading::proofs::StepCases::step_dropped), unfolding(reading::specs::Reader::passes))]
+    pub(crate) fn rare(&self, k: Core, byte: u8) -> Result<Taken, Cause>
+        requires { Fit self.now.choice.alphabet k }
+        ensures { step_of result ≡ Reader.step self.now.choice.alphabet self.now.choice.options (state_of k) byte }
+    {
+        let choice = self.choice;
+        if choice.dropped(byte) {
+            return Ok(Taken {
+                core: Core {
+                    taken: k.taken + 1,
+                    ..k
+                },
+                byte: None,
+            });
         }
-        Symbol::Pad => on_pad(alphabet, options, k),
-        Symbol::Neither => Took::Refuses(Cause::Foreign),
+        match table::lookup(&self.table.values, choice.alphabet, choice.turned(byte)) {
+            Symbol::Digit(v) => self.on_digit(k, v),
+            Symbol::Pad => self.on_pad(k),
+            Symbol::Neither => Err(Cause::Foreign),
+        }
     }
 }

@@ -12,5 +12,4 @@ fn main(rt: HostRuntime) {
     vectors::written(&rt);
     vectors::read(&rt);
     streams::example(&rt);
-    streams::lent_example(&rt);
 }

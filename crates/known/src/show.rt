@@ -1,33 +1,13 @@
-// What a call gave, printed: answer, position and count, and then the bytes.
-ghost use Rattle.std.specs.Prelude.{◌≤◌};
+// What a call gave, printed: what was asked, answer, position and count, and then as many bytes of the buffer as it counts, which need not be text.
+// A write that fails is let go, and the next is tried.
+use answer::Outcome;
+use std::fmt::Display;
 
-use answer::{Outcome, numbers};
-
-// The smaller of two numbers.
-pub(crate) fn least(x: usize, y: usize) -> usize
-    ensures { result ≤ y }
-{
-    if x < y { x } else { y }
-}
-
-pub(crate) fn words(rt: &impl Print, text: &[u8]) {
-    let _ = rt.write_all(text);
-}
-
-pub(crate) fn number(rt: &impl Print, n: usize) {
-    let _ = rt.print(n);
-    words(rt, b" ");
-}
-
-// A line: what was asked, the three numbers of the answer, and as many bytes of the buffer as it counts.
-pub(crate) fn line(rt: &impl Print, asked: &[u8], r: Outcome, out: &[u8]) {
-    words(rt, asked);
-    words(rt, b": ");
-    number(rt, numbers::answer(r) as usize);
-    number(rt, numbers::position(r));
-    let n = numbers::count(r);
-    number(rt, n);
-    let k = least(n, out.len());
-    words(rt, &out[..k]);
-    words(rt, b"\n");
+pub(crate) fn line(rt: &impl Print, asked: impl Display + Drop, outcome: Outcome, out: &[u8]) {
+    let answer = outcome.answer();
+    let position = outcome.position();
+    let count = outcome.count();
+    let _ = print!(rt; "{asked}: {answer} {position} {count} ");
+    let _ = rt.write_all(&out[..count.min(out.len())]);
+    let _ = println!(rt);
 }

@@ -1,58 +1,60 @@
 // 01, "Texts with known outcomes": the table's rows, and the tidied texts.
 use crate::show;
+use answer::Outcome;
+use rule::choice::Choice;
 
-fn row(rt: &impl Print, alphabet: usize, options: usize, text: &[u8]) {
-    let mut out = [0u8; 32];
-    show::number(rt, alphabet);
-    show::number(rt, options);
-    let r = block::read(alphabet, options, text, &mut out);
-    show::line(rt, text, r, &out);
-}
+// Alphabet, options and text.
+type Row = (usize, usize, &'static str);
 
-fn tidy(rt: &impl Print, alphabet: usize, options: usize, text: &[u8]) {
-    let mut out = [0u8; 32];
-    show::words(rt, b"tidy ");
-    show::number(rt, alphabet);
-    show::number(rt, options);
-    let r = tidier::tidy(alphabet, options, text, &mut out);
-    show::line(rt, text, r, &out);
-}
+const TABLE: [Row; 19] = [
+    (0, 0, ""),
+    (0, 0, "Zm9vYg=="),
+    (0, 0, "Zh=="),
+    (0, 8, "Zh=="),
+    (0, 4, "Zm9"),
+    (0, 4, "Zm8"),
+    (0, 0, "Zm9"),
+    (0, 4, "Zg="),
+    (0, 0, "Zg==Zg=="),
+    (0, 0, "Z==="),
+    (0, 0, "Zm9v-"),
+    (0, 1, "Zg=\r\n="),
+    (0, 0, "Zg==\n"),
+    (2, 0, "MZXW6YQ="),
+    (2, 0, "MZ======"),
+    (2, 16, "my======"),
+    (2, 0, "my======"),
+    (4, 0, "666"),
+    (5, 0, "6F"),
+];
 
-fn table_1(rt: &impl Print) {
-    row(rt, 0, 0, b"");
-    row(rt, 0, 0, b"Zm9vYg==");
-    row(rt, 0, 0, b"Zh==");
-    row(rt, 0, 8, b"Zh==");
-    row(rt, 0, 4, b"Zm9");
-    row(rt, 0, 4, b"Zm8");
-    row(rt, 0, 0, b"Zm9");
-    row(rt, 0, 4, b"Zg=");
-    row(rt, 0, 0, b"Zg==Zg==");
-    row(rt, 0, 0, b"Z===");
-}
+const TIDIED: [Row; 6] = [
+    (0, 8, "Zh=="),
+    (0, 4, "Zm8"),
+    (2, 16, "my======"),
+    (0, 1, "Zg=\r\n="),
+    (5, 19, "4 A\n"),
+    (0, 0, "Zm9"),
+];
 
-fn table_2(rt: &impl Print) {
-    row(rt, 0, 0, b"Zm9v-");
-    row(rt, 0, 1, b"Zg=\r\n=");
-    row(rt, 0, 0, b"Zg==\n");
-    row(rt, 2, 0, b"MZXW6YQ=");
-    row(rt, 2, 0, b"MZ======");
-    row(rt, 2, 16, b"my======");
-    row(rt, 2, 0, b"my======");
-    row(rt, 4, 0, b"666");
-    row(rt, 5, 0, b"6F");
+// Each row's text by a whole call, and what came of it.
+fn rows<F>(rt: &impl Print, how: &str, rows: &[Row], call: F)
+where
+    F: Fn(Choice, &[u8], &mut [u8]) -> Outcome,
+    requires { F.IsAlwaysCallable call }
+{
+    for &(alphabet, options, text) in rows {
+        let mut out = [0; 32];
+        let outcome = call(Choice { alphabet, options }, text.as_bytes(), &mut out);
+        let _ = print!(rt; "{how}{alphabet} {options} ");
+        show::line(rt, text, outcome, &out);
+    }
 }
 
 pub(crate) fn table(rt: &impl Print) {
-    table_1(rt);
-    table_2(rt);
+    rows(rt, "", &TABLE, block::read)
 }
 
 pub(crate) fn tidied(rt: &impl Print) {
-    tidy(rt, 0, 8, b"Zh==");
-    tidy(rt, 0, 4, b"Zm8");
-    tidy(rt, 2, 16, b"my======");
-    tidy(rt, 0, 1, b"Zg=\r\n=");
-    tidy(rt, 5, 19, b"4 A\n");
-    tidy(rt, 0, 0, b"Zm9");
+    rows(rt, "tidy ", &TIDIED, tidier::tidy)
 }

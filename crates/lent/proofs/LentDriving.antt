@@ -3,22 +3,22 @@
 use Prim.Native.Nat.{ℕ, ◌≤◌}
 use mathlib.Core.Path.{◌≡◌, refl, sym, ap, ◌∙◌, subst}
 use mathlib.Core.List.{List, [], ◌∷◌, ◌++◌, append_assoc, append-nil}
+use Rattle.std.specs.Prelude.{Ok}
 use lib.ListN.{length, take, drop, take-append-drop}
 use lib.Seq.{take-append-le}
+use Rattle.answer.specs.declared.Stepped.{Stepped}
 use Rattle.alphabet.specs.Bits.{Below}
 use Rattle.stream.specs.declared.reader.Reader.{Reader}
-use Rattle.stream.specs.declared.reader.Start.TheVariants as B
 use Rattle.stream.specs.Stepped.{begun, stepped, written}
 use Rattle.stream.specs.Made.{Lent, begins, offer_by, drive_by, SettledBy}
 use Rattle.stream.specs.Carried.{SettlesBy}
 use Rattle.stream.proofs.CarriedCutting.{any_cutting_carried}
 use Rattle.stream.proofs.Determined as R
 use Rattle.writing.specs.declared.Writer.{Writer}
-use Rattle.writing.specs.declared.Stepped.{Stepped}
 use Rattle.writing.specs.Moment.{After}
 use Rattle.writing.proofs.Determined as W
 use Rattle.writing.proofs.StepShort.{step_short}
-use Rattle.lent.specs.Driving.{Form, Driven, after, ByValue, none, call, ByLent, readers, driven_by, held_of, writers, Moment}
+use Rattle.lent.specs.Driving.{Form, Driven, after, ByValue, none, call, ByLent, by, readers, driven_by, held_of, writers, Moment}
 
 -- what a form's struct of the two and its contract are to say
 pub record Lawful (F : Form) : Type 0 where
@@ -52,16 +52,15 @@ module _ (F : Form) (w : Lawful F) where
   pub lent_is_value : {ls : List Lent} {d e f : Driven F.State} → ByLent F ls d e → ByValue F ls d f → e ≡ f
   lent_is_value k j = value_one (lent_value k) j
 
+-- a stream of the code says it, where its steps allow one result
+by_lawful : {S : Type 0} {may : S → List ℕ → List ℕ → Stepped S → List ℕ → Type 0}
+    → ((s : S) (piece out o p : List ℕ) (x y : Stepped S) → may s piece out x o → may s piece out y p → (x ≡ y) × (o ≡ p)) → Lawful (by S may)
+by_lawful f = record { state_back = λ s t. refl; told_back = λ s t. refl; both_back = λ x. refl; one = f }
+
 -- ---- the reader
 
 pub reader_lawful : Lawful readers
-reader_lawful =
-    record {
-      state_back = λ s t. refl;
-      told_back = λ s t. refl;
-      both_back = λ x. refl;
-      one = λ s piece out o p x y. R.step_determined s piece out o p x y;
-    }
+reader_lawful = by_lawful R.step_determined
 
 -- the definition of driving is what the by-value form does
 pub reader_drives : (ls : List Lent) (d : Driven Reader) → ByValue readers ls d (driven_by ls d)
@@ -76,7 +75,7 @@ pub lent_reader_is : {ls : List Lent} {d e : Driven Reader} → ByLent readers l
 lent_reader_is {ls} {d} {e} k = ap held_of (lent_is_value readers reader_lawful k (reader_drives ls d))
 
 -- driven from a start, with every byte taken or one refused, a finish gives the verdict on the whole text
-pub lent_reader_settles : (a opts : ℕ) (text : List ℕ) → Below 256 text → (r : Reader) → begun a opts ≡ B.Started r → (ls : List Lent) (e : Driven Reader)
+pub lent_reader_settles : (a opts : ℕ) (text : List ℕ) → Below 256 text → (r : Reader) → begun a opts ≡ Ok r → (ls : List Lent) (e : Driven Reader)
     → ByLent readers ls (record { state = r; left = text; out = [] }) e → SettledBy (held_of e) → SettlesBy a opts text (held_of e)
 lent_reader_settles a opts text b r s ls e k y =
     let q : drive_by ls (begins r text) ≡ held_of e = sym (lent_reader_is k) in
@@ -85,13 +84,7 @@ lent_reader_settles a opts text b r s ls e k y =
 -- ---- the writer
 
 pub writer_lawful : Lawful writers
-writer_lawful =
-    record {
-      state_back = λ s t. refl;
-      told_back = λ s t. refl;
-      both_back = λ x. refl;
-      one = λ s piece out o p x y. W.step_determined s piece out o p x y;
-    }
+writer_lawful = by_lawful W.step_determined
 
 pub lent_writer_is : {ls : List Lent} {d e f : Driven Writer} → ByLent writers ls d e → ByValue writers ls d f → e ≡ f
 lent_writer_is k j = lent_is_value writers writer_lawful k j
@@ -108,7 +101,7 @@ lent_writer_moment {e = e} (call {l = l} {d = d} s t o m k) src x =
     let n : ℕ = t.taken.0 in
     let piece : List ℕ = take l.size d.left in
     let y : Moment (src ++ take n piece) (drop n d.left) e = lent_writer_moment k (src ++ take n piece) (m.moment src d.out x) in
-    let z : n ≤ length piece = subst (λ (j : ℕ). j ≤ length piece) (sym (ap (λ (r : Stepped). r.told.taken.0) m.result)) (step_short d.state piece (length l.buffer)) in
+    let z : n ≤ length piece = subst (λ (r : Stepped Writer). r.told.taken.0 ≤ length piece) (sym m.result) (step_short d.state piece (length l.buffer)) in
     record {
       more = take n piece ++ y.more;
       taken =

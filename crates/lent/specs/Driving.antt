@@ -1,15 +1,13 @@
 -- 01, "Streams": "For the serial driver there is a thin form that changes a lent state in place". A text offered in pieces, and again what was not
 -- taken, by the by-value method and by the lent form: each call leaves what its contract allows. Assumes nothing.
 use Rattle.std.specs.Prelude.{ℕ, ◌≡◌, List, [], ◌∷◌, ◌++◌, take, drop}
+use Rattle.answer.specs.declared.Told.{Told}
+use Rattle.answer.specs.declared.Stepped.{Stepped}
 use Rattle.answer.specs.Told.{told}
 use Rattle.stream.specs.declared.reader.Reader.{Reader}
-use Rattle.stream.specs.declared.reader.Told as R
-use Rattle.stream.specs.declared.reader.Stepped as R'
 use Rattle.stream.specs.Made.{Lent, Held, drive_by}
 use Rattle.stream.specs.Stepped.{stepped, written}
 use Rattle.writing.specs.declared.Writer.{Writer}
-use Rattle.writing.specs.declared.Told as W
-use Rattle.writing.specs.declared.Stepped as W'
 use Rattle.writing.specs.Moment.{After}
 use Rattle.writing.specs.Promised.{SteppedAs}
 
@@ -47,19 +45,23 @@ pub data ByLent (F : Form) : List Lent → Driven F.State → Driven F.State →
 
 -- ---- the two streams
 
-abbrev pub readers : Form
-readers =
+-- a stream of the code, whose steps may do this
+abbrev pub by : (S : Type 0) → (S → List ℕ → List ℕ → Stepped S → List ℕ → Type 0) → Form
+by S may =
     record {
-      State = Reader;
-      Told = R.Told;
-      Both = R'.Stepped;
+      State = S;
+      Told = Told;
+      Both = Stepped S;
       state = λ x. x.state;
       told = λ x. x.told;
       both = λ s t. record { state = s; told = t };
       took = λ t. t.taken.0;
       count = λ t. (told t.outcome).count;
-      May = λ s piece out x out'. (x ≡ stepped s piece out) × (out' ≡ written s piece out);
+      May = may;
     }
+
+abbrev pub readers : Form
+readers = by Reader (λ s piece out x out'. (x ≡ stepped s piece out) × (out' ≡ written s piece out))
 
 abbrev pub held_of : Driven Reader → Held
 held_of d = record { reader = d.state; left = d.left; out = d.out }
@@ -69,18 +71,7 @@ abbrev pub driven_by : List Lent → Driven Reader → Driven Reader
 driven_by ls d = let h : Held = drive_by ls (held_of d) in record { state = h.reader; left = h.left; out = h.out }
 
 abbrev pub writers : Form
-writers =
-    record {
-      State = Writer;
-      Told = W.Told;
-      Both = W'.Stepped;
-      state = λ x. x.state;
-      told = λ x. x.told;
-      both = λ s t. record { state = s; told = t };
-      took = λ t. t.taken.0;
-      count = λ t. (told t.outcome).count;
-      May = λ s piece out x out'. SteppedAs s piece out out' x;
-    }
+writers = by Writer (λ s piece out x out'. SteppedAs s piece out out' x)
 
 -- after the source src the bytes u more were taken, and the state and the text handed out are those of both
 pub record Moment (src left : List ℕ) (e : Driven Writer) : Type 0 where

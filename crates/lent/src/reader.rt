@@ -1,42 +1,34 @@
-// "A thin form that changes a lent state in place": the reader's step and finish take the state apart and call the by-value method.
+// "A thin form that changes a lent state in place": the reader's step and finish, by the law of the lent form.
 ghost use Rattle.std.specs.Prelude.{◌≡◌};
 ghost use Rattle.stream.specs.Stepped.{stepped, written, finished};
 
-use stream::reader::{Reader, Stepped, Told};
+use crate::lawful::By;
+use answer::{Stepped, Told};
+use stream::reader::Reader;
 
 pub fn step_in(state: &mut Reader, piece: &[u8], out: &mut [u8]) -> Told
     ensures { (record { state = state.new; told = result } ≡ stepped state.old piece.now out.old)
         × (out.new ≡ written state.old piece.now out.old) }
 {
-    let was = *state;
-    let made = was.step(piece, out);
-    *state = made.state;
-    made.told
+    lentlaw::step_lent::<By<Reader>>(state, piece, out)
 }
 
 pub fn finish_in(state: &mut Reader) -> Told
     ensures { record { state = state.new; told = result } ≡ finished state.old }
 {
-    let was = *state;
-    let made = was.finish();
-    *state = made.state;
-    made.told
+    lentlaw::finish_lent::<By<Reader>>(state)
 }
 
 // The state by value, through the lent form: whoever calls it needs no proof by hand.
-pub fn step_through(was: Reader, piece: &[u8], out: &mut [u8]) -> Stepped
+pub fn step_through(was: Reader, piece: &[u8], out: &mut [u8]) -> Stepped<Reader>
     ensures { (result ≡ stepped was piece.now out.old)
         × (out.new ≡ written was piece.now out.old) }
 {
-    let mut state = was;
-    let told = step_in(&mut state, piece, out);
-    Stepped { state, told }
+    lentlaw::step_through::<By<Reader>>(was, piece, out)
 }
 
-pub fn finish_through(was: Reader) -> Stepped
+pub fn finish_through(was: Reader) -> Stepped<Reader>
     ensures { result ≡ finished was }
 {
-    let mut state = was;
-    let told = finish_in(&mut state);
-    Stepped { state, told }
+    lentlaw::finish_through::<By<Reader>>(was)
 }

@@ -1,6 +1,7 @@
 // The law of the lent form of a stream, once for every state: a function that lends the state calls the one that takes it by value, keeps the state
 // that this returned and hands on what it told. Whatever holds of the result and of the buffer at exit holds of the state at exit and what is told,
-// put together. The other way is here too: what holds of a lent form holds of the state by value through it.
+// put together. A step, a finish and a finish that writes have a trait each, since they take different things. The other way is here too: what holds
+// of a lent form holds of the state by value through it.
 #![tactic(auto)]
 
 mod delay; // delay.rt: a stream that the law is used on

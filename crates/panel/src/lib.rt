@@ -1,5 +1,5 @@
 // The C face: judge, whole reader and whole writer on numbers and byte slices, which C passes as a pointer and a length. Answer, position and count are
-// asked by a call each; the call that writes returns the answer.
+// asked by a call each, as the header has it; the call that writes returns the answer.
 #![tactic(auto)]
 
 ghost use Rattle.std.specs.Prelude.{◌≡◌};
@@ -8,7 +8,18 @@ ghost use Rattle.block.specs.Whole.{judge_of, read_of};
 ghost use Rattle.spelling.specs.Whole.{write_of};
 ghost use Rattle.panel.specs.Calls.{ReadCall, WriteCall};
 
-use answer::{Count, Kind, Outcome, Place, numbers};
+use answer::{Count, Kind, Outcome, Place};
+use rule::choice::Choice;
+
+// The choice of C's numbers.
+fn chosen(alphabet: u32, options: u32) -> Choice
+    ensures { result ≡ record { alphabet = alphabet; options = options } }
+{
+    Choice {
+        alphabet: alphabet as usize,
+        options: options as usize,
+    }
+}
 
 // ---- the judge
 
@@ -16,21 +27,21 @@ use answer::{Count, Kind, Outcome, Place, numbers};
 pub extern "C" fn zem_judge_answer(alphabet: u32, options: u32, text: &[u8]) -> u32
     ensures { result ≡ (judge_of alphabet options text.now).answer }
 {
-    numbers::answer(block::judge(alphabet as usize, options as usize, text))
+    block::judge(chosen(alphabet, options), text).answer()
 }
 
 #[unsafe(no_mangle)]
 pub extern "C" fn zem_judge_position(alphabet: u32, options: u32, text: &[u8]) -> u64
     ensures { result ≡ (judge_of alphabet options text.now).position }
 {
-    numbers::position(block::judge(alphabet as usize, options as usize, text)) as u64
+    block::judge(chosen(alphabet, options), text).position() as u64
 }
 
 #[unsafe(no_mangle)]
 pub extern "C" fn zem_judge_count(alphabet: u32, options: u32, text: &[u8]) -> u64
     ensures { result ≡ (judge_of alphabet options text.now).count }
 {
-    numbers::count(block::judge(alphabet as usize, options as usize, text)) as u64
+    block::judge(chosen(alphabet, options), text).count() as u64
 }
 
 // ---- the reader into a second buffer
@@ -39,15 +50,15 @@ pub extern "C" fn zem_judge_count(alphabet: u32, options: u32, text: &[u8]) -> u
 pub extern "C" fn zem_read(alphabet: u32, options: u32, text: &[u8], out: &mut [u8]) -> u32
     ensures { ReadCall alphabet options text.now out.old result out.new }
 {
-    numbers::answer(block::read(alphabet as usize, options as usize, text, out))
+    block::read(chosen(alphabet, options), text, out).answer()
 }
 
 // What the reader answers with so much room, by the judge alone.
-fn reading(alphabet: usize, options: usize, text: &[u8], room: usize) -> Outcome
-    ensures { told result ≡ read_of alphabet options text.now room }
+fn reading(choice: Choice, text: &[u8], room: usize) -> Outcome
+    ensures { told result ≡ read_of choice.alphabet choice.options text.now room }
 {
-    let judged = block::judge(alphabet, options, text);
-    let good = numbers::count(judged);
+    let judged = block::judge(choice, text);
+    let good = judged.count();
     if room < good {
         return Outcome::Refused(Kind::NoRoom(Place(0)), Count(good));
     }
@@ -58,14 +69,14 @@ fn reading(alphabet: usize, options: usize, text: &[u8], room: usize) -> Outcome
 pub extern "C" fn zem_read_position(alphabet: u32, options: u32, text: &[u8], room: usize) -> u64
     ensures { result ≡ (read_of alphabet options text.now room).position }
 {
-    numbers::position(reading(alphabet as usize, options as usize, text, room)) as u64
+    reading(chosen(alphabet, options), text, room).position() as u64
 }
 
 #[unsafe(no_mangle)]
 pub extern "C" fn zem_read_count(alphabet: u32, options: u32, text: &[u8], room: usize) -> u64
     ensures { result ≡ (read_of alphabet options text.now room).count }
 {
-    numbers::count(reading(alphabet as usize, options as usize, text, room)) as u64
+    reading(chosen(alphabet, options), text, room).count() as u64
 }
 
 // ---- the writer
@@ -74,19 +85,19 @@ pub extern "C" fn zem_read_count(alphabet: u32, options: u32, text: &[u8], room:
 pub extern "C" fn zem_write(alphabet: u32, src: &[u8], out: &mut [u8]) -> u32
     ensures { WriteCall alphabet src.now out.old result out.new }
 {
-    numbers::answer(writing::write(alphabet as usize, src, out))
+    writing::write(alphabet as usize, src, out).answer()
 }
 
 #[unsafe(no_mangle)]
 pub extern "C" fn zem_write_position(alphabet: u32, src: &[u8], room: usize) -> u64
     ensures { result ≡ (write_of alphabet src.now room).told.position }
 {
-    numbers::position(spelling::measure::measure(alphabet as usize, src, room)) as u64
+    spelling::measure::measure(alphabet as usize, src, room).position() as u64
 }
 
 #[unsafe(no_mangle)]
 pub extern "C" fn zem_write_count(alphabet: u32, src: &[u8], room: usize) -> u64
     ensures { result ≡ (write_of alphabet src.now room).told.count }
 {
-    numbers::count(spelling::measure::measure(alphabet as usize, src, room)) as u64
+    spelling::measure::measure(alphabet as usize, src, room).count() as u64
 }

@@ -4,8 +4,8 @@ use Prim.Native.Nat.{ℕ, ◌+◌, ◌-◌, ◌*◌, ◌/◌, ◌%◌, ◌^◌, 
 use mathlib.Core.Path.{◌≡◌, sym, ap, ◌∙◌}
 use native.Mathlib.Omega.{arith}
 use lib.Pow.{mod-pow-add, high, low, field, mod-mod-pow}
+use Rattle.std.specs.Prelude.{Some, None}
 use Rattle.regroup.specs.Regroup.{fed}
-use Rattle.regroup.specs.declared.Fed.TheVariants.{Held, Byte}
 use Rattle.regroup.proofs.RegroupLaws.{fed_held, fed_byte, rest_lt}
 
 -- of a byte, n bits count
@@ -20,14 +20,14 @@ module _ (b r h : ℕ) {v : ℕ} (wide : b < 8) (few : r < 8) (digit : v < 2 ^ b
   joined_low = sym (mod-pow-add (h * 2 ^ b + v) r b ∙ rw (high h b digit, low h b digit))
 
   -- no byte is complete, and r + b bits count
-  pub loose_held : r + b < 8 → fed b r (h % 2 ^ r) v ≡ Held ((h * 2 ^ b + v) % 256 % 2 ^ (r + b))
+  pub loose_held : r + b < 8 → fed b r (h % 2 ^ r) v ≡ record { byte = None; held = (h * 2 ^ b + v) % 256 % 2 ^ (r + b) }
   loose_held l =
       fed_held b r wide few (rest_lt r h) digit l
-      ∙ ap Held (joined_low ∙ sym (low_of_byte (h * 2 ^ b + v) (r + b) (omega arith)))
+      ∙ rw (joined_low, low_of_byte (h * 2 ^ b + v) (r + b) (omega arith))
 
   -- a byte is complete, and n bits count after it
   pub loose_byte : (n : ℕ) → r + b ≡ 8 + n
-      → fed b r (h % 2 ^ r) v ≡ Byte ((h * 2 ^ b + v) / 2 ^ n % 256) ((h * 2 ^ b + v) % 256 % 2 ^ n)
+      → fed b r (h % 2 ^ r) v ≡ record { byte = Some ((h * 2 ^ b + v) / 2 ^ n % 256); held = (h * 2 ^ b + v) % 256 % 2 ^ n }
   loose_byte n e =
       let z : ℕ = h * 2 ^ b + v in
       fed_byte b r wide few (rest_lt r h) digit n e

@@ -6,8 +6,8 @@ use native.Mathlib.Nat.{mod-eq_of_lt, mod-lt, lt_of_lt_of_le}
 use native.Mathlib.Omega.{arith}
 use lib.Pow.{pow_pos, pow_mono, shr_lt}
 use borrow.Author.Tests.{lt-ltb, le-ltb}
+use Rattle.std.specs.Prelude.{Some, None}
 use Rattle.regroup.specs.Regroup.{One, Two, byte_and, fed, digits_and, cut_up}
-use Rattle.regroup.specs.declared.Fed.TheVariants.{Held, Byte}
 use Rattle.alphabet.proofs.Runs.{joined_lt}
 
 -- the first w of w + n bits
@@ -25,7 +25,7 @@ byte_fits k h l = mod-eq_of_lt (lt_of_lt_of_le l (pow_mono {j = 8} h))
 
 module _ (b r : ℕ) {held v : ℕ} (wide : b < 8) (few : r < 8) (small : held < 2 ^ r) (digit : v < 2 ^ b) where
   -- no byte is complete, and by `joined_lt` r + b bits are held
-  pub fed_held : r + b < 8 → fed b r held v ≡ Held (held * 2 ^ b + v)
+  pub fed_held : r + b < 8 → fed b r held v ≡ record { byte = None; held = held * 2 ^ b + v }
   unfolding fed byte_and
   fed_held l = rw (mod-eq_of_lt wide, mod-eq_of_lt few, lt-ltb (r + b) 8 l, byte_fits (r + b) (omega arith) (joined_lt r b small digit))
 
@@ -33,12 +33,18 @@ module _ (b r : ℕ) {held v : ℕ} (wide : b < 8) (few : r < 8) (small : held <
   fed_byte_lt n e = first_lt (r + b) 8 n e (joined_lt r b small digit)
 
   -- a byte is complete, and n bits are held after it
-  pub fed_byte : (n : ℕ) → r + b ≡ 8 + n → fed b r held v ≡ Byte ((held * 2 ^ b + v) / 2 ^ n) ((held * 2 ^ b + v) % 2 ^ n)
+  pub fed_byte : (n : ℕ) → r + b ≡ 8 + n → fed b r held v ≡ record { byte = Some ((held * 2 ^ b + v) / 2 ^ n); held = (held * 2 ^ b + v) % 2 ^ n }
   unfolding fed byte_and
   fed_byte n e =
       let k : r + b - 8 ≡ n = omega arith in
-      rw
-      (mod-eq_of_lt wide, mod-eq_of_lt few, le-ltb (r + b) 8 (omega arith), k, mod-eq_of_lt (fed_byte_lt n e), byte_fits n (omega arith) (rest_lt n (held * 2 ^ b + v)))
+      rw (
+        mod-eq_of_lt wide,
+        mod-eq_of_lt few,
+        le-ltb (r + b) 8 (omega arith),
+        k,
+        mod-eq_of_lt (fed_byte_lt n e),
+        byte_fits n (omega arith) (rest_lt n (held * 2 ^ b + v)),
+      )
 
 -- ---- a byte after r bits held, cut into digits of b bits
 
@@ -71,5 +77,13 @@ module _ (b r : ℕ) {held byte : ℕ} (low : 4 ≤ b) (high : b ≤ 6) (few : r
   cut_two m e =
       let k : r + 8 - b ≡ b + m = omega arith in
       let j : b + m - b ≡ m = omega arith in
-      rw
-      (width, count, k, le-ltb (b + m) b (omega arith), j, byte_fits b (omega arith) (cut_first_lt (b + m) e), byte_fits b (omega arith) (cut_second_lt m), byte_fits m (omega arith) (rest_lt m ((held * 256 + byte) % 2 ^ (b + m))))
+      rw (
+        width,
+        count,
+        k,
+        le-ltb (b + m) b (omega arith),
+        j,
+        byte_fits b (omega arith) (cut_first_lt (b + m) e),
+        byte_fits b (omega arith) (cut_second_lt m),
+        byte_fits m (omega arith) (rest_lt m ((held * 256 + byte) % 2 ^ (b + m))),
+      )

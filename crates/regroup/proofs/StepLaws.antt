@@ -7,18 +7,22 @@ use mathlib.Core.List.{List, [], ◌∷◌, ◌++◌}
 use native.Mathlib.Omega.{arith}
 use lib.Dec.{ltb}
 use borrow.Author.Tests.{ltb-true, ltb-false}
+use Rattle.std.specs.Prelude.{Some, None}
 use Rattle.regroup.specs.Regroup.{Cut, One, Two, fed, cut_up}
 use Rattle.regroup.specs.declared.Fed.{Fed}
-use Rattle.regroup.specs.declared.Fed.TheVariants.{Held, Byte}
 use Rattle.alphabet.proofs.Flow.{Flow, absorb, pass, pass_two}
 use Rattle.regroup.proofs.RegroupLaws.{fed_held, fed_byte, cut_one, cut_two}
 
 -- the digits ds have k bits that are not yet bytes of out: they are held, or a byte and the bits after it
 abbrev pub FedTo : ℕ → List ℕ → List ℕ → ℕ → Fed → Type 0
-FedTo b ds out k (Held held) = (k < 8) × Flow b 8 ds out k held
-FedTo b ds out k (Byte x held) = (8 ≤ k) × Flow b 8 ds (out ++ x ∷ []) (k - 8) held
+FedTo b ds out k f =
+    elim f.byte [
+      | None ↦ (k < 8) × Flow b 8 ds out k f.held
+      | Some x ↦ (8 ≤ k) × Flow b 8 ds (out ++ x ∷ []) (k - 8) f.held
+    ]
 
-pub fed_keeps : (b r : ℕ) (ds out : List ℕ) {held v : ℕ} → b < 8 → r < 8 → v < 2 ^ b → Flow b 8 ds out r held → FedTo b (ds ++ v ∷ []) out (r + b) (fed b r held v)
+pub fed_keeps : (b r : ℕ) (ds out : List ℕ) {held v : ℕ} → b < 8 → r < 8 → v < 2 ^ b → Flow b 8 ds out r held
+    → FedTo b (ds ++ v ∷ []) out (r + b) (fed b r held v)
 fed_keeps b r ds out {held} {v} wide few digit f = go (ltb (r + b) 8) refl
   where
     go : (x : Bool) → ltb (r + b) 8 ≡ x → FedTo b (ds ++ v ∷ []) out (r + b) (fed b r held v)

@@ -1,12 +1,14 @@
 -- 01, "The written form": "Take the bytes as one string of bits, highest bit of each byte first. Cut it into runs of b bits", a step at a time.
 -- A width or a number of held bits above 7 is read modulo 8, and a result keeps its 8 low bits. Assumes nothing.
-use Rattle.std.specs.Prelude.{ℕ, ◌+◌, ◌-◌, ◌*◌, ◌/◌, ◌%◌, ◌^◌, cond, ltb}
+use Rattle.std.specs.Prelude.{ℕ, ◌+◌, ◌-◌, ◌*◌, ◌/◌, ◌%◌, ◌^◌, cond, ltb, Some, None}
 use Rattle.regroup.specs.declared.Fed.{Fed}
-use Rattle.regroup.specs.declared.Fed.TheVariants.{Held, Byte}
 
 -- z has k bits: fewer than 8, which are held, or a byte and the k - 8 bits after it
 unfoldable pub byte_and : ℕ → ℕ → Fed
-byte_and k z = cond (ltb k 8) (Held (z % 256)) (Byte (z / 2 ^ (k - 8) % 256) (z % 2 ^ (k - 8) % 256))
+byte_and k z =
+    cond (ltb k 8)
+    (record { byte = None; held = z % 256 })
+    (record { byte = Some (z / 2 ^ (k - 8) % 256); held = z % 2 ^ (k - 8) % 256 })
 
 -- a digit v of b bits after r bits held
 unfoldable pub fed : ℕ → ℕ → ℕ → ℕ → Fed

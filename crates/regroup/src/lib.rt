@@ -1,15 +1,15 @@
 // Regrouping a step at a time: a digit into the held bits, perhaps a byte out.
 // A width or a number of held bits above 7 is read modulo 8, and a result keeps its 8 low bits.
-#![tactic(auto)]
+#![tactic(auto, unfolding(crate::specs::Regroup::fed, crate::specs::Regroup::byte_and))]
 
 ghost use Rattle.std.specs.Prelude.{◌≡◌, ◌+◌, ◌*◌, ◌/◌, ◌%◌, ◌^◌, ◌≤◌, ◌<◌};
 ghost use Rattle.regroup.specs.Regroup.{fed};
 
-// After a digit: the bits held, or a byte and the bits held after it.
-#[derive(Clone, Copy)]
-pub enum Fed {
-    Held(u8),
-    Byte(u8, u8),
+// After a digit: the byte that it completes, if it does, and the bits held after that.
+#[derive(Clone, Copy, PartialEq, Eq, Debug)]
+pub struct Fed {
+    pub byte: Option<u8>,
+    pub held: u8,
 }
 
 // A digit v of b bits comes after the r bits held.
@@ -20,10 +20,16 @@ pub fn feed(b: usize, r: usize, held: u8, v: u8) -> Fed
     let k = r % 8 + w;
     let z = join(held, w, v);
     if k < 8 {
-        return Fed::Held(byte_of(z));
+        return Fed {
+            byte: None,
+            held: byte_of(z),
+        };
     }
     let n = k - 8;
-    Fed::Byte(byte_of(high(z, n)), byte_of(low(z, n)))
+    Fed {
+        byte: Some(byte_of(high(z, n))),
+        held: byte_of(low(z, n)),
+    }
 }
 
 // The bits held with w bits more after them.

@@ -4,10 +4,9 @@ use Prim.Native.Nat.{ℕ}
 use mathlib.Core.Path.{◌≡◌, refl, sym, ap, ◌∙◌}
 use mathlib.Core.Bool.{false, cond}
 use lib.Dec.{eqb}
+use Rattle.std.specs.Prelude.{Result, Ok, Err}
 use Rattle.rule.specs.declared.Cause.{Cause}
 use Rattle.rule.specs.declared.Cause.TheVariants as C
-use Rattle.rule.specs.declared.End.{End}
-use Rattle.rule.specs.declared.End.TheVariants as E
 use Rattle.rule.specs.Meaning.{number, end_of, cause_of}
 use Rattle.rule.proofs.Causes.{cause_back}
 
@@ -21,13 +20,13 @@ number_some C.AfterPad = refl
 number_some C.Short = refl
 
 -- the end of 01's number
-end : ℕ → End
-end k = cond (eqb k 0) E.Whole (E.Refused (cause_of k))
+end : ℕ → Result (Unit {0}) Cause
+end k = cond (eqb k 0) (Ok tt) (Err (cause_of k))
 
-end_back : (x : End) → end (end_of x) ≡ x
+end_back : (x : Result (Unit {0}) Cause) → end (end_of x) ≡ x
 unfolding end
-end_back E.Whole = refl
-end_back (E.Refused c) = rw (number_some c, cause_back c)
+end_back (Ok _) = refl
+end_back (Err c) = rw (number_some c, cause_back c)
 
-pub ending_determined : (x y : End) {k : ℕ} → end_of x ≡ k → end_of y ≡ k → x ≡ y
+pub ending_determined : (x y : Result (Unit {0}) Cause) {k : ℕ} → end_of x ≡ k → end_of y ≡ k → x ≡ y
 ending_determined x y p q = sym (end_back x) ∙ ap end (p ∙ sym q) ∙ end_back y

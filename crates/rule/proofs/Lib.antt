@@ -1,4 +1,3 @@
-pub mod ByCases
 pub mod Causes
 pub mod Readiness
 pub mod Determined

@@ -5,7 +5,7 @@ use mathlib.Core.Bool.{Bool, true, false, ◌&&◌}
 use native.Mathlib.Nat.{mul-le-mul_right}
 use native.Mathlib.Omega.{arith}
 use lib.Dec.{T, leb}
-use borrow.Author.Tests.{ltb-true, leb-true}
+use borrow.Author.Tests.{lt-ltb, le-leb, ltb-true, leb-true}
 use Rattle.alphabet.specs.Alphabet.{bits}
 use Rattle.alphabet.proofs.AlphabetLaws.{bits_high}
 use Rattle.reading.specs.Options.{allowed}
@@ -38,6 +38,12 @@ is_ready a opts k e =
       taken = leb-true _ _ s.1;
       sound = record { held = ltb-true _ _ p.1; digits = leb-true _ _ r.1; pads = leb-true _ _ q.1 };
     }
+
+-- and a state that is sound, within the limit and under an allowed choice, passes it
+module _ (a opts : ℕ) (k : Core) where
+  pub sound_ready : allowed a opts ≡ true → k.taken ≤ limit → Sound a (state_of k) → ready a opts k ≡ true
+  unfolding ready small held_bits
+  sound_ready e l s = rw (e, le-leb _ _ l, le-leb _ _ s.digits, le-leb _ _ s.pads) (lt-ltb _ _ s.held)
 
 pub small_product : (a d : ℕ) → a < 6 → d ≤ limit → bits a * d < 2 ^ 40
 small_product a d h l = omega (arith, mul-le-mul_right d (bits_high a h), limit_small)

@@ -1,15 +1,12 @@
 -- What the reader's state, a refusal and an end mean in the definitions of `reading`. Assumes nothing.
-use Rattle.std.specs.Prelude.{ℕ, cond, not, ◌&&◌, [], ◌∷◌, eqb, get_or}
+use Rattle.std.specs.Prelude.{ℕ, [], ◌∷◌, get_or, Result, Ok, Err}
 use Rattle.answer.specs.declared.Place.{Place}
 use Rattle.answer.specs.declared.Kind.{Kind}
 use Rattle.answer.specs.declared.Kind.TheVariants as K
-use Rattle.reading.specs.Options.{any_spare}
 use Rattle.reading.specs.Reader.{State}
 use Rattle.rule.specs.declared.Core.{Core}
 use Rattle.rule.specs.declared.Cause.{Cause}
 use Rattle.rule.specs.declared.Cause.TheVariants as C
-use Rattle.rule.specs.declared.End.{End}
-use Rattle.rule.specs.declared.End.TheVariants as E
 
 abbrev pub state_of : Core → State
 state_of k = record { digits = k.digits; held = k.held; pads = k.pads; taken = k.taken }
@@ -39,10 +36,7 @@ kind_by C.Spare = K.Spare
 kind_by C.AfterPad = K.AfterPad
 kind_by C.Short = K.Short
 
-abbrev pub end_of : End → ℕ
-end_of E.Whole = 0
-end_of (E.Refused c) = number c
-
--- the end where padding is wholly absent and may be: a digit count outside the table, or spare bits without SPARE, are refused
-unfoldable pub unpadded_end : ℕ → ℕ → ℕ → ℕ
-unpadded_end opts wants held = cond (eqb wants 0) 8 (cond (not (eqb held 0) && not (any_spare opts)) 6 0)
+-- 01's number of what the text's end gives
+abbrev pub end_of : Result (Unit {0}) Cause → ℕ
+end_of (Ok _) = 0
+end_of (Err c) = number c

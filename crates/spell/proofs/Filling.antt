@@ -50,8 +50,8 @@ module _ {R : Run} {out₀ out : List ℕ} {i n : ℕ} {todo : Run} (f : Filling
 
 -- two stores for one byte
 pub fill_two : {R : Run} {out₀ out : List ℕ} {i n : ℕ} {todo : Run} → Filling R out₀ out i n todo
-    → {next : Run} {x y : ℕ} → todo ≡ after 1 (x ∷ y ∷ []) next → n + 1 < length out
-    → Filling R out₀ (set (set out n x) (n + 1) y) (i + 1) (n + 1 + 1) next
+    → {next : Run} {x y : ℕ} → todo ≡ after 1 (x ∷ y ∷ []) next → n + 2 ≤ length out
+    → Filling R out₀ (set (set out n x) (n + 1) y) (i + 1) (n + 2) next
 fill_two {i = i} {n = n} f {next} {x} {y} e l =
-    rw add-zero at
-    (fill_store (fill_store f 0 {next = after 1 (y ∷ []) next} {x = x} (e ∙ simp zero-add) (omega arith)) 1 {x = y} refl (rw length-set l))
+    rw (add-zero, add_assoc n 1 1) at
+    (fill_store (fill_store f 0 {next = after 1 (y ∷ []) next} {x = x} (e ∙ simp zero-add) (omega arith)) 1 {x = y} refl (rw length-set (omega arith)))

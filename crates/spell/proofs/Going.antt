@@ -19,8 +19,8 @@ use Rattle.spelling.proofs.Cuts.{CutAs, says_one, says_two}
 use Rattle.spell.proofs.Filling.{Filling, fill_none, fill_store, fill_two, fill_stop}
 
 -- at the loop's head, with i bytes taken and n written: of h the few low bits are held
-pub record Going (t : List ℕ) (a b taken held : ℕ) (piece out₀ out : List ℕ) (few h i n : ℕ) : Type 0 where
-  pub asked : Spells t a b
+pub record Going (a b taken held : ℕ) (piece out₀ out : List ℕ) (few h i n : ℕ) : Type 0 where
+  pub asked : Spells a b
   pub within : i ≤ length piece
   pub bits_are : few ≡ 8 * (taken + i) % b
   pub loose : h < 256
@@ -32,8 +32,8 @@ low_bytes b n =
     let e : 8 * (n % b) + 8 * (n / b) * b ≡ 8 * n = omega (arith, mul_assoc 8 (n / b) b, div-add-mod' n b) in
     sym (add-mul-mod_self_right (8 * (n % b)) (8 * (n / b)) b) ∙ ap (λ (x : ℕ). x % b) e
 
-pub begins : {t : List ℕ} {a b taken held : ℕ} {piece : List ℕ} {few : ℕ} (out : List ℕ) → Spells t a b → held < 256 → few ≡ 8 * (taken % b) % b
-    → Going t a b taken held piece out out few held 0 0
+pub begins : {a b taken held : ℕ} {piece : List ℕ} {few : ℕ} (out : List ℕ) → Spells a b → held < 256 → few ≡ 8 * (taken % b) % b
+    → Going a b taken held piece out out few held 0 0
 begins {a = a} {b = b} {taken = taken} {held = held} {piece = piece} {few = few} out k l e =
     let f : few ≡ 8 * taken % b = e ∙ low_bytes b taken in
     record {
@@ -44,16 +44,18 @@ begins {a = a} {b = b} {taken = taken} {held = held} {piece = piece} {few = few}
       fill = rw (add-zero, sub-zero, f, k.width) (fill_none (spell_of a taken held piece (length out)) out);
     }
 
-module _ {t : List ℕ} {a b taken held : ℕ} {piece out₀ out : List ℕ} {few h i n : ℕ} (g : Going t a b taken held piece out₀ out few h i n) where
+module _ {a b taken held : ℕ} {piece out₀ out : List ℕ} {few h i n : ℕ} (g : Going a b taken held piece out₀ out few h i n) where
   pub sizes : (few < b) × (4 ≤ b) × (b ≤ 6)
   sizes =
       let l : 4 ≤ b = rw g.asked.width (bits_low a g.asked.known) in
       (rw g.bits_are (mod-lt (8 * (taken + i)) (omega arith)), l, rw g.asked.width (bits_high a g.asked.known))
 
   -- the piece is at its end
-  pub ends : length piece ≤ i → WentAs (spell_of a taken held piece (length out₀)) (leaving h few i n) out₀ out
+  pub ends : length piece ≤ i → WentAs (spell_of a taken held piece (length out₀)) (leaving h few (length piece) n) out₀ out
   unfolding spell
-  ends l = fill_stop g.fill {w = W.All} (rw (drop_of_length-le piece l))
+  ends l =
+      let e : length piece ≡ i = omega (arith, g.within) in
+      rw e (fill_stop g.fill {w = W.All} (rw (drop_of_length-le piece l)))
 
   module _ (inside : i < length piece) where
     -- one byte of the run
@@ -93,7 +95,7 @@ module _ {t : List ℕ} {a b taken held : ℕ} {piece out₀ out : List ℕ} {fe
         none_fits l = lacks_room cut_one (omega arith)
 
         pub took_one : {x : ℕ} → n < length out → x ≡ digit a ((h * 256 + get_or piece i 0) / 2 ^ k % 2 ^ b)
-            → Going t a b taken held piece out₀ (set out n x) k ((h * 256 + get_or piece i 0) % 256) (i + 1) (n + 1)
+            → Going a b taken held piece out₀ (set out n x) k ((h * 256 + get_or piece i 0) % 256) (i + 1) (n + 1)
         took_one {x} l e =
             let m : length (set out n x) - (n + 1) ≡ length out - n - 1 = omega (arith, length-set out n x) in
             record {
@@ -112,11 +114,12 @@ module _ {t : List ℕ} {a b taken held : ℕ} {piece out₀ out : List ℕ} {fe
         pub two_lack : length out ≤ n + 1 → WentAs (spell_of a taken held piece (length out₀)) (leaving h few i n) out₀ out
         two_lack l = lacks_room (cut_two (k - b) refl) (omega arith)
 
-        pub took_two : {m x y : ℕ} → m ≡ k - b → n + 1 < length out
+        pub took_two : {m x y : ℕ} → m ≡ k - b → n + 2 ≤ length out
             → x ≡ digit a ((h * 256 + get_or piece i 0) / 2 ^ k % 2 ^ b) → y ≡ digit a ((h * 256 + get_or piece i 0) / 2 ^ m % 2 ^ b)
-            → Going t a b taken held piece out₀ (set (set out n x) (n + 1) y) m ((h * 256 + get_or piece i 0) % 256) (i + 1) (n + 1 + 1)
+            → Going a b taken held piece out₀ (set (set out n x) (n + 1) y) m ((h * 256 + get_or piece i 0) % 256) (i + 1) (n + 2)
         took_two {m} {x} {y} q l e f =
-            let j : length (set (set out n x) (n + 1) y) - (n + 1 + 1) ≡ length out - n - 2 = omega (arith, length-set (set out n x) (n + 1) y, length-set out n x) in
+            let j : length (set (set out n x) (n + 1) y) - (n + 2) ≡ length out - n - 2 =
+            omega (arith, length-set (set out n x) (n + 1) y, length-set out n x) in
             record {
               asked = g.asked;
               within = omega arith;
@@ -124,3 +127,6 @@ module _ {t : List ℕ} {a b taken held : ℕ} {piece out₀ out : List ℕ} {fe
               loose = rest_lt 8 (h * 256 + get_or piece i 0);
               fill = rw j (fill_two g.fill (takes (cut_two m q) (omega arith) ∙ rw (← e, ← f)) l);
             }
+
+-- how wide a digit is, for the code's sums and shifts
+pub ruleset widths = (bits_low, bits_high, sizes)

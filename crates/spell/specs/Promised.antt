@@ -1,7 +1,6 @@
 -- What the writer's loop promises: the equation that determines the result and the buffer at exit. Assumes nothing.
 use Rattle.std.specs.Prelude.{ℕ, ◌*◌, ◌%◌, ◌^◌, ◌<◌, ◌≡◌, cond, List, ltb, length}
 use Rattle.alphabet.specs.Alphabet.{bits}
-use Rattle.table.specs.Table.{digit_entries}
 use Rattle.reading.specs.Buffer.{filled}
 use Rattle.spelling.specs.Machine.{Run, stop, spell}
 use Rattle.spelling.specs.declared.Why.TheVariants as W
@@ -15,9 +14,8 @@ spell_of a n held piece room = spell a n (held % 2 ^ (8 * n % bits a)) piece roo
 unfoldable pub spelled_of : ℕ → ℕ → ℕ → List ℕ → ℕ → Run
 spelled_of a n held piece room = cond (ltb a 6) (spell_of a n held piece room) (stop 0 W.All)
 
--- what the loop asks: the table and the width of an alphabet
-pub record Spells (t : List ℕ) (a b : ℕ) : Type 0 where
-  pub table : t ≡ digit_entries
+-- what the loop asks: the width of an alphabet
+pub record Spells (a b : ℕ) : Type 0 where
   pub width : b ≡ bits a
   pub known : a < 6
 

@@ -1,16 +1,16 @@
 -- What a finish adds: how long it is, and how it is laid into a buffer, the digit first and the pads after it. Assumes nothing.
-use Prim.Native.Nat.{ℕ, suc, ◌+◌, ◌-◌, ◌*◌, ◌/◌, ◌%◌, ◌^◌, ◌<◌, ◌≤◌}
+use Prim.Native.Nat.{ℕ, suc, ◌+◌, ◌-◌, ◌*◌, ◌/◌, ◌%◌, ◌^◌, ◌<◌}
 use mathlib.Core.Path.{◌≡◌, refl, sym, ap, ◌∙◌, subst}
 use mathlib.Core.Bool.{Bool, true, false}
-use mathlib.Core.List.{List, [], ◌∷◌, append_assoc, append-nil}
+use mathlib.Core.List.{List, [], ◌∷◌, append_assoc}
 use native.Mathlib.Nat.{zero-add, add-zero, mod-lt}
 use native.Mathlib.Numerals.{add-one}
 use native.Mathlib.Omega.{arith}
 use lib.Arith.{digits_lt}
 use lib.Pow.{pow-add, pow_pos}
 use lib.Dec.{eqb}
-use lib.ListN.{length, take, set, replicate, length-append, length-replicate, get_or-replicate, take-append-drop}
-use lib.Seq.{paste, paste-suc, take-length, take-suc-set, drop-set-lt}
+use lib.ListN.{length, set, replicate, length-append, length-replicate}
+use lib.Seq.{paste, take-length, take-suc-set, drop-set-lt}
 use borrow.Author.Tests.{eq-eqb, ne_eqb}
 use Rattle.alphabet.specs.Alphabet.{bits, group, digit, pad}
 use Rattle.alphabet.specs.Written.{wanting, written, written_length}
@@ -64,30 +64,23 @@ filled_lt a n held s =
     subst (λ (k : ℕ). held * 2 ^ (bits a - r) < k) (sym (pow-add 2 r (bits a - r)) ∙ ap (λ (k : ℕ). 2 ^ k) w)
     (subst (λ (k : ℕ). k < 2 ^ r * 2 ^ (bits a - r)) (add-zero (held * 2 ^ (bits a - r))) (digits_lt s.small (pow_pos (bits a - r))))
 
--- where bits are left: the digit and the pads, with the width b and the length w as the code has them
-module _ (a n held : ℕ) {b w : ℕ} (s : Sound a n held) (eb : b ≡ bits a) (ew : w ≡ written_length a n) (left : 8 * n % b ≡ 0 → ⊥) where
+-- where bits are left: the digit and the pads, with the width b as the code has it
+module _ (a n held : ℕ) {b : ℕ} (s : Sound a n held) (eb : b ≡ bits a) (left : 8 * n % b ≡ 0 → ⊥) where
   spelled_out : ending a n held ≡ digit a (held * 2 ^ (b - 8 * n % b)) ∷ replicate (wanting (group a) (8 * n / b + 1)) pad
   spelled_out = rw eb (ending_some a n held (rw eb at left))
 
-  pub whole_length : 8 * n / b + length (ending a n held) ≡ w
-  whole_length = rw (ew, eb) (ending_length a n held s.known)
+  pub some_ending : length (ending a n held) ≡ wanting (group a) (8 * n / b + 1) + 1
+  some_ending = ap length spelled_out ∙ ap suc (length-replicate (wanting (group a) (8 * n / b + 1)) pad) ∙ sym (add-one (wanting (group a) (8 * n / b + 1)))
 
-  pads_are : wanting (group a) (8 * n / b + 1) ≡ w - 8 * n / b - 1
-  pads_are = omega (arith, ap length spelled_out, length-replicate (wanting (group a) (8 * n / b + 1)) pad, whole_length)
-
-  pub ending_is : ending a n held ≡ digit a (held * 2 ^ (b - 8 * n % b)) ∷ replicate (w - 8 * n / b - 1) pad
-  ending_is = rw pads_are at spelled_out
-
-  pub some_ending : length (ending a n held) ≡ w - 8 * n / b - 1 + 1
-  some_ending = ap length ending_is ∙ ap suc (length-replicate (w - 8 * n / b - 1) pad) ∙ sym (add-one (w - 8 * n / b - 1))
+  pub ending_is : ending a n held ≡ digit a (held * 2 ^ (b - 8 * n % b)) ∷ replicate (length (ending a n held) - 1) pad
+  ending_is =
+      let w : length (ending a n held) - 1 ≡ wanting (group a) (8 * n / b + 1) = omega (arith, some_ending) in
+      rw w spelled_out
 
   pub value_lt : held * 2 ^ (b - 8 * n % b) < 2 ^ b
   value_lt = rw eb (filled_lt a n held s)
 
 -- ---- in a buffer
-
-pub paste_none : (o : List ℕ) (at : ℕ) → o ≡ paste o at [] 0
-paste_none o at = sym (rw (add-zero at, append-nil (take at o)) (take-append-drop at o))
 
 -- one byte, and the rest after it
 pub paste_more : (o : List ℕ) (at x : ℕ) (text : List ℕ) (n : ℕ) → at < length o
@@ -105,11 +98,3 @@ laid o at x pads e l =
 -- the whole of a text at the front
 pub paste_front : (o text : List ℕ) → paste o 0 text (length text) ≡ filled text o
 paste_front o text = rw (take-length text, zero-add)
-
--- one pad more
-pub paste_pad : (o : List ℕ) (at pads i : ℕ) → at + pads ≤ length o → i < pads
-    → set (paste o at (replicate pads pad) i) (at + i) pad ≡ paste o at (replicate pads pad) (i + 1)
-paste_pad o at pads i h l =
-    ap (λ (x : ℕ). set (paste o at (replicate pads pad) i) (at + i) x) (sym (get_or-replicate pads i pad 0 l))
-    ∙ paste-suc o at (replicate pads pad) i 0 (omega arith) (rw (length-replicate pads pad) l)
-    ∙ ap (paste o at (replicate pads pad)) (sym (add-one i))

@@ -1,21 +1,44 @@
 -- The limit in source bytes: the longest source, and the length of a written form as the code counts it. Assumes nothing.
-use Prim.Native.Nat.{ℕ, ◌+◌, ◌-◌, ◌*◌, ◌/◌, ◌%◌, ◌^◌, ◌<◌, ◌≤◌}
-use mathlib.Core.Path.{◌≡◌, refl, sym, ap, ◌∙◌}
+use Prim.Native.Nat.{ℕ, ◌+◌, ◌-◌, ◌*◌, ◌/◌, ◌^◌, ◌<◌, ◌≤◌}
+use mathlib.Core.Path.{◌≡◌, refl, sym}
 use mathlib.Core.Logic.{◌↔◌}
-use mathlib.Core.Bool.{Bool, true, false}
-use native.Mathlib.Nat.{mul-le-mul_right, add-zero}
+use mathlib.Core.Bool.{Bool, true, false, cond}
+use mathlib.Core.List.{[], ◌∷◌}
+use native.Mathlib.Nat.{mul-le-mul_right, div-eq_of_lt-le, zero-mul}
 use native.Mathlib.Omega.{arith}
 use lib.Dec.{ltb}
 use borrow.Author.Tests.{lt-ltb, ltb-true, ltb-false}
 use Rattle.alphabet.specs.Alphabet.{bits, group}
 use Rattle.alphabet.specs.Written.{wanting, written_length}
-use Rattle.alphabet.proofs.AlphabetLaws.{bits_high, group_pos}
-use Rattle.alphabet.proofs.WrittenLaws.{wanting_none, wanting_some}
+use Rattle.std.specs.Int.{div_ceil, next_multiple_of}
+use Rattle.std.proofs.lemmas.Grind.{div_ceil_times}
+use Rattle.std.proofs.lemmas.List.{get_or_past}
+use Rattle.alphabet.proofs.AlphabetLaws.{bits_low, bits_high}
 use Rattle.alphabet.proofs.Lengths.{longest}
 use Rattle.alphabet.proofs.Ends.{length_as}
 use Rattle.reading.specs.Limit.{limit}
 use Rattle.spelling.specs.Size.{longest_of}
 use Rattle.reading.proofs.LimitLaws.{limit_whole, limit_small}
+
+-- above 5 no alphabet has bits, so the product alone is the longest source
+bits_none : (a : ℕ) → 6 ≤ a → bits a ≡ 0
+unfolding bits
+bits_none a h = get_or_past (6 ∷ 6 ∷ 5 ∷ 5 ∷ 4 ∷ 4 ∷ []) a 0 h
+
+pub bits_most : (a : ℕ) → bits a ≤ 6
+bits_most a = go (ltb a 6) refl
+  where
+    go : (t : Bool) → ltb a 6 ≡ t → bits a ≤ 6
+    go true e = bits_high a (ltb-true a 6 e)
+    go false e = omega (arith, bits_none a (ltb-false a 6 e))
+
+pub longest_law : (a : ℕ) → bits a * limit / 8 ≡ longest_of a
+unfolding longest_of
+longest_law a = go (ltb a 6) refl
+  where
+    go : (t : Bool) → ltb a 6 ≡ t → bits a * limit / 8 ≡ cond t (bits a * limit / 8) 0
+    go true e = refl
+    go false e = rw (bits_none a (ltb-false a 6 e), zero-mul)
 
 module _ (a : ℕ) (h : a < 6) where
   pub longest_known : longest_of a ≡ bits a * limit / 8
@@ -48,14 +71,10 @@ module _ (a : ℕ) (h : a < 6) where
       let m : bits a * limit ≤ 6 * limit = mul-le-mul_right limit (bits_high a h) in
       omega (arith, (within_bits n).0 l, limit_small)
 
-  -- the length as the code counts it: the digits, and the pads where the last group is not full
-  module _ (n : ℕ) {b g : ℕ} (eb : b ≡ bits a) (eg : g ≡ group a) where
-    counted : written_length a n ≡ (8 * n + (b - 1)) / b + wanting g ((8 * n + (b - 1)) / b)
-    counted = rw (eb, eg) (length_as a n)
-
-    pub length_full : (8 * n + (b - 1)) / b % g ≡ 0 → (8 * n + (b - 1)) / b ≡ written_length a n
-    length_full r = sym (counted ∙ rw (wanting_none g ((8 * n + (b - 1)) / b) r, add-zero))
-
-    pub length_padded : ((8 * n + (b - 1)) / b % g ≡ 0 → ⊥) → (8 * n + (b - 1)) / b + (g - (8 * n + (b - 1)) / b % g) ≡ written_length a n
-    length_padded r =
-        sym (counted ∙ ap (λ (k : ℕ). (8 * n + (b - 1)) / b + k) (wanting_some g ((8 * n + (b - 1)) / b) (rw eg (group_pos a h)) (omega (arith, r))))
+  -- the length as the code counts it: the digits, up to the end of a group
+  pub length_filled : (n : ℕ) {b g : ℕ} → b ≡ bits a → g ≡ group a → next_multiple_of (div_ceil (8 * n) b) g ≡ written_length a n
+  unfolding wanting
+  length_filled n {b} {g} eb eg =
+      let t = div_ceil_times (8 * n) b (rw eb (omega (arith, bits_low a h))) in
+      let d : (8 * n + (b - 1)) / b ≡ div_ceil (8 * n) b = div-eq_of_lt-le b (omega (arith, t)) (omega (arith, t)) in
+      rw (← d, eb, eg) (sym (length_as a n))

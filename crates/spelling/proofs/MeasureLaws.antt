@@ -11,15 +11,16 @@ use Rattle.answer.specs.Told.{Told}
 use Rattle.alphabet.specs.Written.{written, written_length}
 use Rattle.alphabet.proofs.Lengths.{written_length_law}
 use Rattle.reading.specs.Limit.{limit}
-use Rattle.spelling.specs.declared.Size.{Size}
-use Rattle.spelling.specs.declared.Size.TheVariants.{Unknown, TooLong, Needs}
+use Rattle.std.specs.Prelude.{Result, Ok, Err}
+use Rattle.spelling.specs.declared.NoSize.{NoSize}
+use Rattle.spelling.specs.declared.NoSize.TheVariants.{Unknown, TooLong}
 use Rattle.spelling.specs.Whole.{numbers, Wrote, nothing, write_of}
 use Rattle.spelling.specs.Size.{size_of, fitting_numbers, FormFits}
 
-abbrev by_size : Size → ℕ → Told
-by_size Unknown room = numbers 1 0 0
-by_size TooLong room = numbers 2 0 0
-by_size (Needs need) room = fitting_numbers need room
+abbrev by_size : Result ℕ NoSize → ℕ → Told
+by_size (Err Unknown) room = numbers 1 0 0
+by_size (Err TooLong) room = numbers 2 0 0
+by_size (Ok need) room = fitting_numbers need room
 
 -- what the three tests pick: of the alphabet, of the limit, of the room
 abbrev picked : Bool → Bool → Bool → List ℕ → Wrote
@@ -44,7 +45,7 @@ picked_all true false true text q = absurd (omega arith)
 picked_all true false false text q = (refl, refl, refl, refl)
 picked_all false y z text q = absurd (omega arith)
 
-pub size_within : (a n : ℕ) → a < 6 → written_length a n ≤ limit → size_of a n ≡ Needs (written_length a n)
+pub size_within : (a n : ℕ) → a < 6 → written_length a n ≤ limit → size_of a n ≡ Ok (written_length a n)
 unfolding size_of
 size_within a n h l = rw (lt-ltb a 6 h, le-ltb limit (written_length a n) l)
 
@@ -53,14 +54,14 @@ module _ (a : ℕ) (src : List ℕ) (room : ℕ) where
   unfolding write_of size_of fitting_numbers
   answer_by_size = rw (← written_length_law a src) (go (ltb a 6) (ltb limit (length (written a src))) (ltb room (length (written a src))) refl)
     where
-      go : (x y z : Bool) → ltb room (length (written a src)) ≡ z → (picked x y z (written a src)).told ≡ by_size (cond x (cond y TooLong (Needs (length (written a src)))) Unknown) room
+      go : (x y z : Bool) → ltb room (length (written a src)) ≡ z → (picked x y z (written a src)).told ≡ by_size (cond x (cond y (Err TooLong) (Ok (length (written a src)))) (Err Unknown)) room
       go true true z e = refl
       go true false true e = rw e
       go true false false e = rw e
       go false y z e = refl
 
-  pub told_by_size : {s : Size} → size_of a (length src) ≡ s → by_size s room ≡ (write_of a src room).told
-  told_by_size e = sym (answer_by_size ∙ ap (λ (s : Size). by_size s room) e)
+  pub told_by_size : {s : Result ℕ NoSize} → size_of a (length src) ≡ s → by_size s room ≡ (write_of a src room).told
+  told_by_size e = sym (answer_by_size ∙ ap (λ (s : Result ℕ NoSize). by_size s room) e)
 
   -- an answer 0 is given exactly where the form fits, and else nothing is written
   pub accepted : (write_of a src room).told.answer ≡ 0 → FormFits a src room × ((write_of a src room).text ≡ written a src)

@@ -4,9 +4,9 @@ use mathlib.Core.Path.{◌≡◌, refl}
 use mathlib.Core.Bool.{Bool, true, false, ◌&&◌}
 use native.Mathlib.Nat.{div-lt_iff_lt-mul, one-mul, le-div_iff_mul-le}
 use native.Mathlib.Omega.{arith}
-use lib.Dec.{ltb, leb}
+use lib.Dec.{eqb, ltb, leb}
 use lib.Pow.{pow_pos}
-use borrow.Author.Tests.{ltb-true, leb-true, lt-ltb, le-ltb, le-leb, lt-leb}
+use borrow.Author.Tests.{eqb-true, eqb-false, ltb-true, leb-true, lt-ltb, le-ltb, le-leb, lt-leb}
 use Rattle.alphabet.specs.Written.{written_length}
 use Rattle.alphabet.specs.Alphabet.{bits}
 use Rattle.reading.specs.Limit.{limit}
@@ -28,17 +28,25 @@ module _ (a n held : ℕ) (h : a < 6) where
   source_within w = (within_most a h n).1 (rw (longest_known a h) at w)
 
   module _ (w : n ≤ longest_of a) {b : ℕ} (eb : b ≡ bits a) where
-    pub too_large : 0 < held / 2 ^ (8 * n % b) → false ≡ sound_numbers a n held
+    too_large : 0 < held / 2 ^ (8 * n % b) → false ≡ sound_numbers a n held
     unfolding sound_numbers
     too_large l =
         let k : 1 * 2 ^ (8 * n % b) ≤ held = (le-div_iff_mul-le (pow_pos (8 * n % b))).0 l in
         rw (lt-ltb a 6 h, le-leb (written_length a n) limit (source_within w), le-ltb held (2 ^ (8 * n % bits a)) (rw (one-mul, eb) at k))
 
-    pub all_right : held / 2 ^ (8 * n % b) ≤ 0 → true ≡ sound_numbers a n held
+    all_right : held / 2 ^ (8 * n % b) ≤ 0 → true ≡ sound_numbers a n held
     unfolding sound_numbers
     all_right l =
         let k : held < 2 ^ (8 * n % bits a) = rw (one-mul, eb) at ((div-lt_iff_lt-mul {x = held} {y = 1} (pow_pos (8 * n % b))).0 (omega arith)) in
         rw (lt-ltb a 6 h, le-leb (written_length a n) limit (source_within w), lt-ltb held (2 ^ (8 * n % bits a)) k)
+
+    -- so the test of the bits is the whole
+    pub by_bits : eqb (held / 2 ^ (8 * n % b)) 0 ≡ sound_numbers a n held
+    by_bits = go (eqb (held / 2 ^ (8 * n % b)) 0) refl
+      where
+        go : (t : Bool) → eqb (held / 2 ^ (8 * n % b)) 0 ≡ t → t ≡ sound_numbers a n held
+        go true e = all_right (omega (arith, eqb-true _ 0 e))
+        go false e = too_large (omega (arith, eqb-false _ 0 e))
 
 -- what numbers that pass the test have
 pub and_first : (p q : Bool) → p && q ≡ true → p ≡ true

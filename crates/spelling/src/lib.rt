@@ -11,70 +11,54 @@ ghost use Rattle.spelling.specs.Sound.{sound_numbers};
 ghost use Rattle.spelling.specs.Size.{longest_of, size_of};
 
 // Why a run over a piece stopped: all of it is taken, a byte is refused for the limit, or the next byte needs room.
-#[derive(Clone, Copy)]
+#[derive(Clone, Copy, PartialEq, Eq)]
 pub enum Why {
     All,
     Limit,
     Room,
 }
 
-// The length of a written form, where there is one within the limit.
-#[derive(Clone, Copy)]
-pub enum Size {
+// Why there is no length to tell: no alphabet has the number, or the written form exceeds the limit.
+#[derive(Clone, Copy, Debug, PartialEq, Eq)]
+pub enum NoSize {
     Unknown,
     TooLong,
-    Needs(usize),
 }
 
 // The longest source whose written form is within the limit; 0 for an alphabet above 5.
 pub fn longest(alphabet: usize) -> usize
     ensures { result ≡ longest_of alphabet }
 {
-    if 5 < alphabet {
-        return 0;
-    }
-    let b = alphabet::sizes::bits(alphabet);
-    let l = reading::limit();
-    b * l / 8
+    alphabet::sizes::bits(alphabet) * reading::limit() / 8
 }
 
-// The length of the written form of n bytes.
+// The length of the written form of n bytes: their digits, up to the end of a group.
 fn written_len(alphabet: usize, n: usize) -> usize
     requires { (alphabet < 6) × (written_length alphabet n ≤ limit) }
     ensures { result ≡ written_length alphabet n }
 {
-    let b = alphabet::sizes::bits(alphabet);
-    let g = alphabet::sizes::group(alphabet);
-    let d = (8 * n + (b - 1)) / b;
-    let last = d % g;
-    if last == 0 { d } else { d + (g - last) }
+    let digits = (8 * n).div_ceil(alphabet::sizes::bits(alphabet));
+    digits.next_multiple_of(alphabet::sizes::group(alphabet))
 }
 
-pub fn size_of(alphabet: usize, n: usize) -> Size
+// The length of the written form of n bytes, where there is one within the limit.
+pub fn size_of(alphabet: usize, n: usize) -> Result<usize, NoSize>
     ensures { result ≡ size_of alphabet n }
 {
     if 5 < alphabet {
-        return Size::Unknown;
+        Err(NoSize::Unknown)
+    } else if longest(alphabet) < n {
+        Err(NoSize::TooLong)
+    } else {
+        Ok(written_len(alphabet, n))
     }
-    if longest(alphabet) < n {
-        return Size::TooLong;
-    }
-    Size::Needs(written_len(alphabet, n))
 }
 
 // Whether a source gives these numbers: so many bytes taken, and such bits held.
 pub fn sound(alphabet: usize, taken: usize, held: u8) -> bool
     ensures { result ≡ sound_numbers alphabet taken held }
 {
-    if 5 < alphabet {
-        return false;
-    }
-    if longest(alphabet) < taken {
-        return false;
-    }
-    let few = 8 * taken % alphabet::sizes::bits(alphabet);
-    if 0 < (held as usize) >> few {
-        return false;
-    }
-    true
+    alphabet < 6
+        && taken <= longest(alphabet)
+        && held >> (8 * taken % alphabet::sizes::bits(alphabet)) == 0
 }

@@ -5,13 +5,13 @@ use mathlib.Core.Logic.{inl, inr}
 use mathlib.Core.List.{List, [], ◌∷◌, ◌++◌, map, append-nil}
 use native.Mathlib.Omega.{arith}
 use lib.ListN.{length, take, drop}
+use Rattle.std.specs.Prelude.{Ok}
 use Rattle.alphabet.specs.Bits.{Below}
 use Rattle.reading.specs.Reader.{Verdict}
 use Rattle.reading.specs.Promises.{Promised}
 use Rattle.states.specs.declared.Status.{Status}
 use Rattle.states.specs.declared.Status.TheVariants as U
 use Rattle.stream.specs.declared.reader.Reader.{Reader}
-use Rattle.stream.specs.declared.reader.Start.TheVariants as B
 use Rattle.streaming.specs.Stream.{done, Stream}
 use Rattle.streaming.specs.Calls.{finish_of}
 use Rattle.streaming.specs.Driving as D
@@ -46,7 +46,9 @@ settled_carried h (inr x) = inr (record { answer = number x.cause; is = rw x.is 
 verdict_carried : (h : Held) → verdict_by h ≡ finish_verdict (driven_of h)
 verdict_carried h =
     let x = finish_tells h.reader in
-    λ i. record { answer = x.answer i; position = x.position i; good = (sym (append-nil h.out) ∙ ap (λ w. h.out ++ w) (sym (nothing_written (stream_of h.reader)))) i }
+    let e : h.out ≡ h.out ++ (finish_of (stream_of h.reader)).wrote =
+    sym (append-nil h.out) ∙ ap (λ w. h.out ++ w) (sym (nothing_written (stream_of h.reader))) in
+    λ i. record { answer = x.answer i; position = x.position i; good = e i }
 
 done_only : (u : Status) → status_of u ≡ done → u ≡ U.Done
 unfolding status_of
@@ -67,7 +69,7 @@ map_length : (ls : List Lent) → length (map offer_of ls) ≡ length ls
 map_length [] = refl
 map_length (l ∷ ls) = ap suc (map_length ls)
 
-module _ (a opts : ℕ) (text : List ℕ) (b : Below 256 text) (r : Reader) (e : begun a opts ≡ B.Started r) (ls : List Lent) where
+module _ (a opts : ℕ) (text : List ℕ) (b : Below 256 text) (r : Reader) (e : begun a opts ≡ Ok r) (ls : List Lent) where
   abbrev driven : Driven
   driven = drive (map offer_of ls) (D.begin (stream_of r) text)
 
@@ -79,7 +81,8 @@ module _ (a opts : ℕ) (text : List ℕ) (b : Below 256 text) (r : Reader) (e :
 
   pub any_cutting_carried : SettledBy held → SettlesBy a opts text held
   any_cutting_carried y =
-      let x : Settles a opts text driven = any_cutting a opts text b (stream_of r) (start_tells a opts r e) (map offer_of ls) (subst Settled same (settled_carried held y)) in
+      let z : Settled driven = subst Settled same (settled_carried held y) in
+      let x : Settles a opts text driven = any_cutting a opts text b (stream_of r) (start_tells a opts r e) (map offer_of ls) z in
       let v : verdict_by held ≡ finish_verdict driven = verdict_carried held ∙ ap finish_verdict same in
       record {
         whole = v ∙ x.whole;

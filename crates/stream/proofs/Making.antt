@@ -6,10 +6,10 @@ use mathlib.Core.Bool.{true}
 use mathlib.Core.List.{List, ◌++◌, append-nil}
 use native.Mathlib.Omega.{arith}
 use lib.ListN.{length, take, replicate, length-replicate}
+use Rattle.std.specs.Prelude.{Ok}
 use Rattle.reading.specs.Reader.{State}
 use Rattle.reading.proofs.Refusals.{blame, Ended, ended}
 use Rattle.stream.specs.declared.reader.Reader.{Reader}
-use Rattle.stream.specs.declared.reader.Start.TheVariants as B
 use Rattle.streaming.specs.Stream.{Status, live, shut, done, Stream, Start, declined, started, start_of}
 use Rattle.streaming.specs.Given.{given}
 use Rattle.streaming.specs.Calls.{Called, step_of, finish_of}
@@ -43,11 +43,11 @@ stream_back s e = rw (stands_back s.alphabet s.options s.state s.status (given_s
 
 -- ---- from the methods to the definitions
 
-pub start_tells : (a opts : ℕ) (r : Reader) → begun a opts ≡ B.Started r → start_of a opts ≡ started (stream_of r)
+pub start_tells : (a opts : ℕ) (r : Reader) → begun a opts ≡ Ok r → start_of a opts ≡ started (stream_of r)
 unfolding begun start_as
 start_tells a opts r e = go (start_of a opts) refl e
   where
-    go : (x : Start) → start_of a opts ≡ x → start_as x ≡ B.Started r → start_of a opts ≡ started (stream_of r)
+    go : (x : Start) → start_of a opts ≡ x → start_as x ≡ Ok r → start_of a opts ≡ started (stream_of r)
     go declined f e = let z : ◌≡◌ {A = ℕ} 0 1 = cc in absurd (omega arith)
     go (started s) f e =
         let q : reader_of s ≡ r = cc in
@@ -81,7 +81,8 @@ module _ {a opts : ℕ} where
       let e : step_of (stream_of (reader_of s)) piece (length buffer) ≡ step_of s piece room =
       ap₂ (λ (x : Stream) (n : ℕ). step_of x piece n) (stream_back s (calls_given k)) (length-replicate room 0) in
       let x = step_tells (reader_of s) piece buffer in
-      made_at (ap (λ (n : ℕ). t ++ take n piece) (x.took ∙ ap (λ (c : Called). c.took) e)) (ap (λ (w : List ℕ). out ++ w) (x.wrote ∙ ap (λ (c : Called). c.wrote) e))
+      made_at (ap (λ (n : ℕ). t ++ take n piece) (x.took ∙ ap (λ (c : Called). c.took) e))
+      (ap (λ (w : List ℕ). out ++ w) (x.wrote ∙ ap (λ (c : Called). c.wrote) e))
       (sym (reader_back (stepped (reader_of s) piece buffer).state) ∙ ap reader_of (x.stream ∙ ap (λ (c : Called). c.stream) e))
       (steps (calls_made k) piece b buffer)
   calls_made (R.closed {t = t} {out = out} {s = s} k) =

@@ -146,10 +146,11 @@ module _ (r : Reader) where
       regular_tells (step_of (stream_of r) piece (length out)) out
       (in_order_law (step_of (stream_of r) piece (length out)) (λ k i x. x.step piece (length out))
       (λ e f.
+      let run : P.Ran = run_piece r.choice.alphabet r.choice.options piece (state_of r.core) (length out) in
       subst Regular (sym (live_step (stream_of r) refl refl e (rw f) piece (length out)))
-      (ran_regular (stream_of r) (run_piece r.alphabet r.options piece (state_of r.core) (length out))
-      (ran_cause r.alphabet r.options (state_of r.core) piece (length out) (run_piece r.alphabet r.options piece (state_of r.core) (length out))
-      (piece_feeds r.alphabet r.options piece (state_of r.core) (length out) [] (given_says (stream_of r) e).readable.within)))))
+      (ran_regular (stream_of r) run
+      (ran_cause r.choice.alphabet r.choice.options (state_of r.core) piece (length out) run
+      (piece_feeds r.choice.alphabet r.choice.options piece (state_of r.core) (length out) [] (given_says (stream_of r) e).readable.within)))))
 
   finish_none : (finish_of (stream_of r)).wrote ≡ []
   finish_none = nothing_written (stream_of r)
@@ -162,4 +163,5 @@ module _ (r : Reader) where
       (in_order_law (finish_of (stream_of r)) (λ k i x. x.finish)
       (λ e f.
       subst Regular (sym (live_finish (stream_of r) refl refl e (rw f)))
-      (closed_regular (stream_of r) (ending r.alphabet r.options (state_of r.core)) (ended_cause (ended r.alphabet r.options (state_of r.core)))))))
+      (closed_regular (stream_of r) (ending r.choice.alphabet r.choice.options (state_of r.core))
+      (ended_cause (ended r.choice.alphabet r.choice.options (state_of r.core)))))))

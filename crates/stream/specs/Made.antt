@@ -1,34 +1,33 @@
 -- 01, "Streams", of the methods as they are called: "Each call hands the stream's state back by value, with the answer, the position, the bytes taken
 -- in this call and the bytes written". What a result tells, the sequences of calls, and a text offered in pieces. Assumes nothing.
-use Rattle.std.specs.Prelude.{ℕ, ◌≡◌, ◌⊎◌, List, [], ◌∷◌, ◌++◌, length, take, drop}
+use Rattle.std.specs.Prelude.{ℕ, ◌≡◌, ◌⊎◌, List, [], ◌∷◌, ◌++◌, length, take, drop, Ok}
+use Rattle.answer.specs.declared.Stepped.{Stepped}
 use Rattle.answer.specs.Told.{told}
 use Rattle.alphabet.specs.Bits.{Below}
 use Rattle.reading.specs.Reader.{Verdict}
 use Rattle.rule.specs.declared.Cause.{Cause}
 use Rattle.states.specs.declared.Status.TheVariants as U
 use Rattle.stream.specs.declared.reader.Reader.{Reader}
-use Rattle.stream.specs.declared.reader.Stepped.{Stepped}
-use Rattle.stream.specs.declared.reader.Start.TheVariants as B
 use Rattle.streaming.specs.Calls.{Called}
 use Rattle.streaming.specs.Driving.{Offer, Driven}
 use Rattle.stream.specs.Stepped.{stream_of, begun, stepped, written, finished}
 
 -- ---- a result in 01's numbers
 
-abbrev pub answer_of : Stepped → ℕ
+abbrev pub answer_of : Stepped Reader → ℕ
 answer_of x = (told x.told.outcome).answer
 
-abbrev pub position_of : Stepped → ℕ
+abbrev pub position_of : Stepped Reader → ℕ
 position_of x = (told x.told.outcome).position
 
-abbrev pub count_of : Stepped → ℕ
+abbrev pub count_of : Stepped Reader → ℕ
 count_of x = (told x.told.outcome).count
 
-abbrev pub took_of : Stepped → ℕ
+abbrev pub took_of : Stepped Reader → ℕ
 took_of x = x.told.taken.0
 
 -- the result x, with the buffer at entry and at exit, tells the call c; bytes past the count written are not changed
-pub record Tells (x : Stepped) (out out' : List ℕ) (c : Called) : Type 0 where
+pub record Tells (x : Stepped Reader) (out out' : List ℕ) (c : Called) : Type 0 where
   pub stream : stream_of x.state ≡ c.stream
   pub answer : answer_of x ≡ c.answer
   pub position : position_of x ≡ c.position
@@ -45,7 +44,7 @@ handed_out r piece out = take (count_of (stepped r piece out)) (written r piece 
 
 -- calls from a start with a and opts that took this text and handed out these bytes leave the reader
 pub data Made (a opts : ℕ) : List ℕ → List ℕ → Reader → Type 0 where
-  starts : {r : Reader} → begun a opts ≡ B.Started r → Made a opts [] [] r
+  starts : {r : Reader} → begun a opts ≡ Ok r → Made a opts [] [] r
   steps : {t out : List ℕ} {r : Reader} → Made a opts t out r → (piece : List ℕ) → Below 256 piece → (buffer : List ℕ)
       → Made a opts (t ++ take (took_of (stepped r piece buffer)) piece) (out ++ handed_out r piece buffer) (stepped r piece buffer).state
   finishes : {t out : List ℕ} {r : Reader} → Made a opts t out r → Made a opts t out (finished r).state
@@ -76,7 +75,7 @@ begins r text = record { reader = r; left = text; out = [] }
 unfoldable pub offer_by : Lent → Held → Held
 offer_by l h =
     let piece : List ℕ = take l.size h.left in
-    let x : Stepped = stepped h.reader piece l.buffer in
+    let x : Stepped Reader = stepped h.reader piece l.buffer in
     record { reader = x.state; left = drop (took_of x) h.left; out = h.out ++ handed_out h.reader piece l.buffer }
 
 unfoldable pub drive_by : List Lent → Held → Held

@@ -1,8 +1,12 @@
 // The one reverse table of 1,536 entries, 256 for each alphabet, and the table of digits. A table is taken once a call and lent.
-#![tactic(auto)]
+#![tactic(auto, unfolding(crate::specs::Table::symbol_in, crate::specs::Table::digit_in, alphabet::specs::Alphabet::padded, alphabet::specs::Alphabet::is_pad))]
+
+mod tables; // tables.rt: the two tables as types, each with what its numbers are
 
 ghost use Rattle.std.specs.Prelude.{◌≡◌};
 ghost use Rattle.table.specs.Table.{entries, symbol_in, digit_entries, digit_in};
+
+pub use tables::{Digits, Table};
 
 // What a byte is in an alphabet.
 #[derive(Clone, Copy)]
@@ -126,10 +130,10 @@ const DIGITS: [u8; 384] = *b"\
     \0\0\0\0\0\0\0\0\0\0\0\0\0\0\0\0\0\0\0\0\0\0\0\0\0\0\0\0\0\0\0\0\
     \0\0\0\0\0\0\0\0\0\0\0\0\0\0\0\0";
 
-pub fn table() -> [u8; 1536]
-    ensures { result ≡ entries }
+pub fn table() -> Table
+    ensures { result.values ≡ entries }
 {
-    VALUES
+    Table { values: VALUES }
 }
 
 // A byte in the lent reverse table; neither for an alphabet above 5.
@@ -139,37 +143,25 @@ pub fn lookup(t: &[u8; 1536], alphabet: usize, byte: u8) -> Symbol
     if 6 <= alphabet {
         return Symbol::Neither;
     }
-    let at = alphabet * 256 + byte as usize;
-    let v = t[at];
-    if v < 255 {
-        return Symbol::Digit(v);
-    }
-    if 4 <= alphabet {
-        return Symbol::Neither;
-    }
-    if byte == 61 {
-        Symbol::Pad
-    } else {
-        Symbol::Neither
+    match t[alphabet * 256 + byte as usize] {
+        255 if alphabet < 4 && byte == b'=' => Symbol::Pad,
+        255 => Symbol::Neither,
+        v => Symbol::Digit(v),
     }
 }
 
-pub fn digits() -> [u8; 384]
-    ensures { result ≡ digit_entries }
+pub fn digits() -> Digits
+    ensures { result.bytes ≡ digit_entries }
 {
-    DIGITS
+    Digits { bytes: DIGITS }
 }
 
 // A value's digit in the lent table of digits; 0 for an alphabet above 5 or a value above 63.
 pub fn digit(t: &[u8; 384], alphabet: usize, value: u8) -> u8
     ensures { result ≡ digit_in t.now alphabet value }
 {
-    if 6 <= alphabet {
+    if 6 <= alphabet || 64 <= value {
         return 0;
     }
-    if 64 <= value {
-        return 0;
-    }
-    let at = alphabet * 64 + value as usize;
-    t[at]
+    t[alphabet * 64 + value as usize]
 }

@@ -41,7 +41,9 @@ module _ (a opts : ℕ) (t : List ℕ) where
       where
         go : (w : P.Why) → ran.why ≡ w → ran.why ≡ P.all
         go P.all e = e
-        go (P.refused k) e = absurd (refused_not_zero (refused_range a opts t (length t) k e) (sym (ap (λ (v : Verdict). v.answer) (refused_verdict a opts t (length t) k e)) ∙ zero))
+        go (P.refused k) e =
+            absurd
+            (refused_not_zero (refused_range a opts t (length t) k e) (sym (ap (λ (v : Verdict). v.answer) (refused_verdict a opts t (length t) k e)) ∙ zero))
         go P.full e = absurd (never_full a opts t (length t) (within a opts t ok) e)
 
     seen_all : Seen a opts t (read a opts t)

@@ -1,9 +1,7 @@
 pub mod SpellingLaws
 pub mod TidyText
 pub mod AcceptedRun
-pub mod Buffers
 pub mod SpellingSteps
-pub mod PadSteps
 pub mod CleanWritten
 pub mod TidierReturns
 pub mod Determined

@@ -37,7 +37,8 @@ module _ (a opts : ℕ) (t : List ℕ) (room : ℕ) (ok : allowed a opts ≡ tru
       let b : ltb room (length (judged a opts t).good) ≡ false = le-ltb room (length (judged a opts t).good) l in
       (rw (ok, b, zero, (promised_of a opts t ok).zero_place zero), rw (ok, b))
 
-  pub accepted_tidied : length (clean a opts t) ≤ room → (tidy_of a opts t room ≡ done (length t) (length (clean a opts t))) × (tidy_text a opts t room ≡ clean a opts t)
+  pub accepted_tidied : length (clean a opts t) ≤ room
+      → (tidy_of a opts t room ≡ done (length t) (length (clean a opts t))) × (tidy_text a opts t room ≡ clean a opts t)
   unfolding tidy_of tidy_text
   accepted_tidied l =
       let b : ltb room (length (clean a opts t)) ≡ false = le-ltb room (length (clean a opts t)) l in
@@ -73,7 +74,8 @@ unfolding tidy_of
 zero_tidies a opts t room = go (allowed a opts) refl (eqb (judged a opts t).answer 0) refl (ltb room (length (clean a opts t))) refl
   where
     go : (x : Bool) → allowed a opts ≡ x → (y : Bool) → eqb (judged a opts t).answer 0 ≡ y → (z : Bool) → ltb room (length (clean a opts t)) ≡ z
-        → (cond x (cond y (cond z (no_room (length (clean a opts t))) (done (length t) (length (clean a opts t)))) (record { answer = (judged a opts t).answer; position = (judged a opts t).position; count = 0 })) choice).answer ≡ 0
+        → (cond x (cond y (cond z (no_room (length (clean a opts t))) (done (length t) (length (clean a opts t))))
+        (record { answer = (judged a opts t).answer; position = (judged a opts t).position; count = 0 })) choice).answer ≡ 0
         → Tidies a opts t room
     go true e true f false g q = record { choice = e; zero = eqb-true _ _ f; text = (accepted_tidied a opts t room e (eqb-true _ _ f) (ltb-false _ _ g)).1 }
     go true e true f true g q = absurd (omega (arith, q))
@@ -99,7 +101,8 @@ module _ (a opts : ℕ) (t : List ℕ) (room : ℕ) (first : (tidy_of a opts t r
       rw once.text (rw facts.again at (accepted_tidied a opts (clean a opts t) other ok zero (rw (facts.again, ← once.text) l)))
 
   -- and strictly
-  pub tidied_is_kept_strictly : length tidied ≤ other → (tidy_of a 0 tidied other ≡ done (length tidied) (length tidied)) × (tidy_text a 0 tidied other ≡ tidied)
+  pub tidied_is_kept_strictly : length tidied ≤ other
+      → (tidy_of a 0 tidied other ≡ done (length tidied) (length tidied)) × (tidy_text a 0 tidied other ≡ tidied)
   tidied_is_kept_strictly l =
       let h : a < 6 = allowed_alphabet a opts once.choice in
       let zero : (judged a 0 (clean a opts t)).answer ≡ 0 = (strict_exactly a h (clean a opts t)).1 (facts.canonical, facts.fits) in

@@ -73,4 +73,9 @@ module _ (a opts : ℕ) where
 
   pub spelt_front : (t : List ℕ) (i : ℕ) → length (spelt a opts (take i t)) ≤ length (spelt a opts t)
   spelt_front t i =
-      omega (arith, ap (λ (u : List ℕ). length (spelt a opts u)) (take-append-drop i t), ap length (spelt_append (take i t) (drop i t)), length-append (spelt a opts (take i t)) (spelt a opts (drop i t)))
+      omega (
+        arith,
+        ap (λ (u : List ℕ). length (spelt a opts u)) (take-append-drop i t),
+        ap length (spelt_append (take i t) (drop i t)),
+        length-append (spelt a opts (take i t)) (spelt a opts (drop i t)),
+      )

@@ -2,10 +2,10 @@
 use Prim.Native.Nat.{ℕ, ◌+◌, ◌<◌, ◌≤◌, ◌^◌}
 use mathlib.Core.Path.{◌≡◌, refl, sym, ap, ◌∙◌, subst}
 use mathlib.Core.Bool.{Bool, true, false, cond}
-use mathlib.Core.List.{List, []}
+use mathlib.Core.List.{List, [], ◌++◌}
 use native.Mathlib.Omega.{arith}
 use lib.Dec.{T, eqb, ltb}
-use lib.ListN.{length}
+use lib.ListN.{length, drop}
 use borrow.Author.Tests.{eq-eqb, lt-ltb, le-ltb}
 use Rattle.answer.specs.declared.Place.{Place}
 use Rattle.answer.specs.declared.Count.{Count}
@@ -16,7 +16,8 @@ use Rattle.answer.specs.declared.Outcome.TheVariants as O
 use Rattle.answer.specs.Told.{Told, number, position, told}
 use Rattle.answer.proofs.ToldLaws.{refusal}
 use Rattle.alphabet.specs.Alphabet.{group}
-use Rattle.alphabet.specs.Written.{wanting}
+use Rattle.std.specs.Int.{next_multiple_of}
+use Rattle.alphabet.proofs.WrittenLaws.{wanting_counted}
 use Rattle.reading.specs.Options.{allowed}
 use Rattle.reading.specs.Cleaning.{clean}
 use Rattle.reading.specs.Reader.{judged}
@@ -57,7 +58,8 @@ module _ (a opts : ℕ) (t : List ℕ) {ran : Ran} (counts : ran ≡ fresh_as a 
           → (◌≡◌ {A = Told} (record { answer = number k; position = position k; count = 0 })
           (cond x
           (cond (eqb (judged a opts t).answer 0)
-          (cond (ltb room (length (clean a opts t))) (no_room (length (clean a opts t))) (record { answer = 0; position = length t; count = length (clean a opts t) }))
+          (cond (ltb room (length (clean a opts t))) (no_room (length (clean a opts t)))
+          (record { answer = 0; position = length t; count = length (clean a opts t) }))
           (record { answer = (judged a opts t).answer; position = (judged a opts t).position; count = 0 }))
           choice))
           × (cond x (cond (eqb (judged a opts t).answer 0) (cond (ltb room (length (clean a opts t))) [] (clean a opts t)) []) [] ≡ [])
@@ -68,7 +70,8 @@ module _ (a opts : ℕ) (t : List ℕ) {ran : Ran} (counts : ran ≡ fresh_as a 
           (rw (z, f, p), rw z)
       go false e = (rw (ap (λ (x : Told). x.answer) e, ap (λ (x : Told). x.position) e), refl)
 
-  pub refused : (o : List ℕ) {k : Kind} {n : Count} {r : Outcome} → told r ≡ answered a opts ran → r ≡ O.Refused k n → TidyAs a opts t o (O.Refused k (record { 0 = 0 })) o
+  pub refused : (o : List ℕ) {k : Kind} {n : Count} {r : Outcome} → told r ≡ answered a opts ran → r ≡ O.Refused k n
+      → TidyAs a opts t o (O.Refused k (record { 0 = 0 })) o
   unfolding told
   refused o {k} {n} {r} e q =
       let d = refuses k n (sym (ap told q) ∙ judges r e) (length o) in
@@ -85,7 +88,8 @@ module _ (a opts : ℕ) (t : List ℕ) {ran : Ran} (counts : ran ≡ fresh_as a 
   unfolding told judge_of
   accepts {p} {n} {r} e q = go (allowed a opts) refl (sym (ap told q) ∙ judges r e)
     where
-      go : (x : Bool) → allowed a opts ≡ x → ◌≡◌ {A = Told} (record { answer = 0; position = p.0; count = n.0 }) (cond x (verdict (judged a opts t)) choice) → Accepts a opts t p
+      go : (x : Bool) → allowed a opts ≡ x → ◌≡◌ {A = Told} (record { answer = 0; position = p.0; count = n.0 }) (cond x (verdict (judged a opts t)) choice)
+          → Accepts a opts t p
       go true ok f =
           let z : (judged a opts t).answer ≡ 0 = sym (ap (λ (x : Told). x.answer) f) in
           record { choice = ok; zero = z; place = ap (λ (x : Told). x.position) f ∙ (promised_of a opts t ok).zero_place z }
@@ -102,14 +106,18 @@ module _ (a opts : ℕ) (t : List ℕ) {ran : Ran} (counts : ran ≡ fresh_as a 
     spells =
         subst (λ (r : Ran). Spelled a opts t r.core.held) (sym (counts ∙ fresh_runs a opts t x.choice)) (accepted_spelled a opts t x.choice x.zero)
 
-    pub need_is : {w : ℕ} → w ≡ wanting (group a) ran.core.digits → ran.core.digits + w ≡ length (clean a opts t)
-    need_is {w} e =
-        let d : length (spelt a opts t) ≡ ran.core.digits =
-        digits_counted a opts t x.choice x.zero ∙ sym (ap (λ (r : Ran). r.core.digits) (counts ∙ fresh_runs a opts t x.choice)) in
-        rw (e, ← d) (sym (clean_length spells))
+    module _ {g : ℕ} (q : g ≡ group a) where
+      next_is : next_multiple_of ran.core.digits g ≡ length (clean a opts t)
+      next_is =
+          let d : length (spelt a opts t) ≡ ran.core.digits =
+          digits_counted a opts t x.choice x.zero ∙ sym (ap (λ (r : Ran). r.core.digits) (counts ∙ fresh_runs a opts t x.choice)) in
+          rw (q, ← d) (ap (λ (w : ℕ). length (spelt a opts t) + w) (wanting_counted (group a) (length (spelt a opts t))) ∙ sym (clean_length spells))
 
-    pub need_small : {w : ℕ} → w ≡ wanting (group a) ran.core.digits → ran.core.digits + w < 2 ^ 40
-    need_small e = omega (arith, need_is e, tidy.fits, limit_small)
+      pub need_small : next_multiple_of ran.core.digits g < 2 ^ 40
+      need_small = omega (arith, next_is, tidy.fits, limit_small)
+
+      pub need_is : {need : ℕ} → need ≡ next_multiple_of ran.core.digits g → need ≡ length (clean a opts t)
+      need_is e = e ∙ next_is
 
     module _ (o : List ℕ) {need : ℕ} (e : need ≡ length (clean a opts t)) where
       pub lacking : length o < need → TidyAs a opts t o (O.Refused (K.NoRoom (record { 0 = 0 })) (record { 0 = need })) o
@@ -124,14 +132,14 @@ module _ (a opts : ℕ) (t : List ℕ) {ran : Ran} (counts : ran ≡ fresh_as a 
             tidied = λ q. absurd (omega arith);
           }
 
-      pub tidied : need ≤ length o → {o' : List ℕ} → o' ≡ filled (clean a opts t) o → TidyAs a opts t o (O.Accepted p (record { 0 = need })) o'
+      pub tidied : need ≤ length o → {w : List ℕ} → w ≡ clean a opts t → TidyAs a opts t o (O.Accepted p (record { 0 = need })) (w ++ drop need o)
       unfolding told tidy_of tidy_text
       tidied l f =
           let z : eqb (judged a opts t).answer 0 ≡ true = eq-eqb _ _ x.zero in
           let b : ltb (length o) (length (clean a opts t)) ≡ false = le-ltb (length o) (length (clean a opts t)) (omega arith) in
           record {
             is = rw (x.choice, z, b, x.place, e);
-            buffer = rw (x.choice, z, b) f;
+            buffer = rw (x.choice, z, b, f, e);
             promised = promised_of a opts t;
             tidied = λ q. tidy;
           }

@@ -32,10 +32,12 @@ module _ (a : ℕ) (h : a < 6) where
   at_last : (ds : List ℕ) (v : ℕ) → get_or (map (digit a) (ds ++ v ∷ [])) (last_of (map (digit a) (ds ++ v ∷ []))) 0 ≡ digit a v
   at_last ds v = rw (last_place ds v, map-append) (get_or_at (map (digit a) ds) (digit a v) [] 0 (length (map (digit a) ds)) refl)
 
-  pub spares_in_last : (ds : List ℕ) → Below (2 ^ bits a) ds → bits a * length ds % 8 < bits a → 0 < left_of (bits a) ds → Clearable a (left_of (bits a) ds) (map (digit a) ds)
+  pub spares_in_last : (ds : List ℕ) → Below (2 ^ bits a) ds → bits a * length ds % 8 < bits a → 0 < left_of (bits a) ds
+      → Clearable a (left_of (bits a) ds) (map (digit a) ds)
   spares_in_last ds l f k = go (snoc ds) l f k
     where
-      go : {es : List ℕ} → Snoc es → Below (2 ^ bits a) es → bits a * length es % 8 < bits a → 0 < left_of (bits a) es → Clearable a (left_of (bits a) es) (map (digit a) es)
+      go : {es : List ℕ} → Snoc es → Below (2 ^ bits a) es → bits a * length es % 8 < bits a → 0 < left_of (bits a) es
+          → Clearable a (left_of (bits a) es) (map (digit a) es)
       go none l f k = absurd (omega (arith, (full_whole a h [] (zero-mod (group a))).clear))
       go (some fs v) l f k =
           let v< : v < 2 ^ bits a = (below_last (2 ^ bits a) fs l).1 in
@@ -47,17 +49,21 @@ module _ (a : ℕ) (h : a < 6) where
 
   -- the digits of their bytes are the same with the last one's spare bits zero
   digits_cleared : (ds : List ℕ) → Below (2 ^ bits a) ds → bits a * length ds % 8 < bits a
-      → (map (digit a) (digits_of (bits a) (bytes_of (bits a) ds)) ≡ last_clear a (left_of (bits a) ds) (map (digit a) ds)) × (length (digits_of (bits a) (bytes_of (bits a) ds)) ≡ length ds)
+      → (map (digit a) (digits_of (bits a) (bytes_of (bits a) ds)) ≡ last_clear a (left_of (bits a) ds) (map (digit a) ds))
+      × (length (digits_of (bits a) (bytes_of (bits a) ds)) ≡ length ds)
   unfolding last_clear
   digits_cleared ds l f = go (eqb (left_of (bits a) ds) 0) refl
     where
       last : {es : List ℕ} → Snoc es → Below (2 ^ bits a) es → bits a * length es % 8 < bits a → (left_of (bits a) es ≡ 0 → ⊥)
-          → (map (digit a) (digits_of (bits a) (bytes_of (bits a) es)) ≡ set (map (digit a) es) (last_of (map (digit a) es)) (digit a (value a (get_or (map (digit a) es) (last_of (map (digit a) es)) 0) - left_of (bits a) es)))
+          → (map (digit a) (digits_of (bits a) (bytes_of (bits a) es))
+          ≡ set (map (digit a) es) (last_of (map (digit a) es))
+          (digit a (value a (get_or (map (digit a) es) (last_of (map (digit a) es)) 0) - left_of (bits a) es)))
           × (length (digits_of (bits a) (bytes_of (bits a) es)) ≡ length es)
       last none l f n = absurd (n (full_whole a h [] (zero-mod (group a))).clear)
       last (some fs v) l f n =
           let b = below_last (2 ^ bits a) fs l in
-          let e : digits_of (bits a) (bytes_of (bits a) (fs ++ v ∷ [])) ≡ fs ++ clear_low (bits a * length (fs ++ v ∷ []) % 8) v ∷ [] = last_digits (bits a) fs v f b.0 b.1 in (
+          let e : digits_of (bits a) (bytes_of (bits a) (fs ++ v ∷ [])) ≡ fs ++ clear_low (bits a * length (fs ++ v ∷ []) % 8) v ∷ [] =
+          last_digits (bits a) fs v f b.0 b.1 in (
             rw (at_last fs v, value_digit a h b.1, last_less (bits a) fs v f, e, last_place fs v, map-append, map-append)
                 (sym (set_at (map (digit a) fs) (digit a v) [] (digit a (clear_low (bits a * length (fs ++ v ∷ []) % 8) v)) (length (map (digit a) fs)) refl)),
             rw e (length-append fs (clear_low (bits a * length (fs ++ v ∷ []) % 8) v ∷ []) ∙ sym (length-append fs (v ∷ []))),
@@ -65,15 +71,19 @@ module _ (a : ℕ) (h : a < 6) where
 
       go : (x : Bool) → eqb (left_of (bits a) ds) 0 ≡ x
           → (map (digit a) (digits_of (bits a) (bytes_of (bits a) ds))
-          ≡ cond x (map (digit a) ds) (set (map (digit a) ds) (last_of (map (digit a) ds)) (digit a (value a (get_or (map (digit a) ds) (last_of (map (digit a) ds)) 0) - left_of (bits a) ds))))
+          ≡ cond x (map (digit a) ds)
+          (set (map (digit a) ds) (last_of (map (digit a) ds))
+          (digit a (value a (get_or (map (digit a) ds) (last_of (map (digit a) ds)) 0) - left_of (bits a) ds))))
           × (length (digits_of (bits a) (bytes_of (bits a) ds)) ≡ length ds)
       go true e =
-          let d : digits_of (bits a) (bytes_of (bits a) ds) ≡ ds = digits_bytes (bits a) ds l (record { few = f; clear = eqb-true (left_of (bits a) ds) 0 e }) in
+          let d : digits_of (bits a) (bytes_of (bits a) ds) ≡ ds =
+          digits_bytes (bits a) ds l (record { few = f; clear = eqb-true (left_of (bits a) ds) 0 e }) in
           (ap (map (digit a)) d, ap length d)
       go false e = last (snoc ds) l f (eqb-false (left_of (bits a) ds) 0 e)
 
   -- so is the written form of their bytes
-  pub written_out : (ds : List ℕ) → Below (2 ^ bits a) ds → bits a * length ds % 8 < bits a → written a (bytes_of (bits a) ds) ≡ spelled_out a (left_of (bits a) ds) (map (digit a) ds)
+  pub written_out : (ds : List ℕ) → Below (2 ^ bits a) ds → bits a * length ds % 8 < bits a
+      → written a (bytes_of (bits a) ds) ≡ spelled_out a (left_of (bits a) ds) (map (digit a) ds)
   unfolding spelled_out
   written_out ds l f =
       let d = digits_cleared ds l f in

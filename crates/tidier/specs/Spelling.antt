@@ -5,7 +5,6 @@ use Rattle.alphabet.specs.Alphabet.{group, digit, value, is_digit, pad}
 use Rattle.alphabet.specs.Written.{wanting}
 use Rattle.reading.specs.Options.{allowed}
 use Rattle.reading.specs.Cleaning.{kept, turned, clean}
-use Rattle.tidier.specs.declared.Own.{Own}
 
 -- the digits among the bytes
 unfoldable pub digits_among : ℕ → List ℕ → List ℕ
@@ -39,8 +38,3 @@ pub record Spelled (a opts : ℕ) (t : List ℕ) (held : ℕ) : Type 0 where
   pub choice : allowed a opts ≡ true
   pub clearable : 0 < held → Clearable a held (spelt a opts t)
   pub form : clean a opts t ≡ spelled_out a held (spelt a opts t)
-
--- the digit that a byte is written as, or none
-unfoldable pub own_text : Own → List ℕ
-own_text (Own.Digit c) = c ∷ []
-own_text Own.Nothing = []

@@ -1,151 +1,116 @@
 // The tidier: the cleaned text of an accepted one. The text is read twice: it is counted, and its digits are written in the alphabet's own case.
 #![tactic(auto)]
 
-ghost use Rattle.std.specs.Prelude.{◌≡◌, true, ◌∷◌, [], ◌++◌, ◌+◌, ◌-◌, ◌<◌, ◌≤◌, length, take, replicate};
+ghost use Rattle.std.specs.Prelude.{◌≡◌, true, ◌∷◌, [], ◌-◌, ◌<◌, ◌≤◌, length};
+ghost use Rattle.std.specs.Option.{option_to_list};
 ghost use Rattle.alphabet.specs.Alphabet as Alphabet;
-ghost use Rattle.table.specs.Table.{entries};
-ghost use Rattle.alphabet.specs.Written as Written;
-ghost use Rattle.reading.specs.Options as Options;
 ghost use Rattle.reading.specs.Cleaning as Cleaning;
 ghost use Rattle.reading.specs.Buffer.{filled};
 ghost use Rattle.tidier.specs.Spelling as Spelling;
-ghost use Rattle.tidier.specs.Spelling.{spelt, own_text, Clearable, Spelled};
+ghost use Rattle.tidier.specs.Spelling.{spelt, Clearable, Spelled};
 ghost use Rattle.tidier.specs.Tidy.{TidyAs};
 
 use answer::{Count, Kind, Outcome, Place};
 use block::judging::outcome;
+use engine::rules::Rules;
+use rule::choice::Choice;
 use table::Symbol;
 
-// The digit that a byte is written as, if any.
-#[derive(Clone, Copy)]
-enum Own {
-    Digit(u8),
-    Nothing,
-}
-
-// A byte that is no digit as it stands: dropped, turned to a digit, or a pad.
-fn own_digit(t: &[u8; 1536], alphabet: usize, options: usize, byte: u8) -> Own
-    requires t_value { t.now ≡ entries }
-    requires alphabet_bound { alphabet < 6 }
-    ensures { own_text result ≡ spelt alphabet options (byte ∷ []) }
+// The digit that a byte is written as, if any: a digit as it stands, or what a byte that is not dropped is turned to.
+#[tactic(auto, using(crate::proofs::SpellingSteps::owns))]
+fn own_digit(rules: &Rules, byte: u8) -> Option<u8>
+    ensures { option_to_list result ≡ spelt rules.now.choice.alphabet rules.now.choice.options (byte ∷ []) }
 {
-    if rule::dropped(options, byte) {
-        return Own::Nothing;
+    let choice = rules.choice;
+    if let Symbol::Digit(_) = table::lookup(&rules.table.values, choice.alphabet, byte) {
+        return Some(byte);
     }
-    let turn = rule::turned(alphabet, options, byte);
-    match table::lookup(t, alphabet, turn) {
-        Symbol::Digit(_) => Own::Digit(turn),
-        Symbol::Pad => Own::Nothing,
-        Symbol::Neither => Own::Nothing,
+    if choice.dropped(byte) {
+        return None;
+    }
+    let turn = choice.turned(byte);
+    match table::lookup(&rules.table.values, choice.alphabet, turn) {
+        Symbol::Digit(_) => Some(turn),
+        _ => None,
     }
 }
 
 // The digits of the text, in the alphabet's own case.
-fn spell(t: &[u8; 1536], alphabet: usize, options: usize, text: &[u8], out: &mut [u8]) -> usize
-    requires t_value { t.now ≡ entries }
-    requires options_value { Options.allowed alphabet options ≡ true }
-    requires text_in_bounds { length (spelt alphabet options text.now) ≤ length out.old }
-    ensures value { result ≡ length (spelt alphabet options text.now) }
-    ensures out_after { out.new ≡ filled (spelt alphabet options text.now) out.old }
+#[tactic(auto, using(crate::proofs::SpellingLaws::spelt_nothing, crate::proofs::SpellingSteps::spelling_ends))]
+fn spell(rules: &Rules, text: &[u8], out: &mut [u8]) -> usize
+    requires { length (spelt rules.now.choice.alphabet rules.now.choice.options text.now) ≤ length out.old }
+    ensures value { result ≡ length (spelt rules.now.choice.alphabet rules.now.choice.options text.now) }
+    ensures out_after { out.new ≡ filled (spelt rules.now.choice.alphabet rules.now.choice.options text.now) out.old }
 {
-    let mut i: usize = 0;
-    let mut n: usize = 0;
-    while i < text.len() {
-        let byte = text[i];
-        match table::lookup(t, alphabet, byte) {
-            Symbol::Digit(_) => {
-                out[n] = byte;
-                n += 1;
-                i += 1;
-            }
-            _ => match own_digit(t, alphabet, options, byte) {
-                Own::Digit(c) => {
-                    out[n] = c;
-                    n += 1;
-                    i += 1;
-                }
-                Own::Nothing => {
-                    i += 1;
-                }
-            },
+    let mut n = 0;
+    for &byte in text {
+        if let Some(digit) = own_digit(rules, byte) {
+            out[n] = digit;
+            n += 1;
         }
     }
     n
 }
 
-// The last of n digits with its spare bits, which are the held ones, zero.
-fn clear_last(t: &[u8; 1536], alphabet: usize, held: u8, n: usize, out: &mut [u8])
-    requires t_value { t.now ≡ entries }
-    requires alphabet_bound { alphabet < 6 }
-    requires n_in_bounds { n ≤ length out.old }
-    requires clearable { 0 < held → Clearable alphabet held (take n out.old) }
-    ensures { out.new ≡ filled (Spelling.last_clear alphabet held (take n out.old)) out.old }
+// A digit with its spare bits, which are the held ones, zero.
+#[tactic(auto, using(crate::proofs::SpellingSteps::clears))]
+fn cleared(rules: &Rules, held: u8, byte: u8) -> u8
+    requires a_digit { Alphabet.is_digit rules.now.choice.alphabet byte ≡ true }
+    requires low { held ≤ Alphabet.value rules.now.choice.alphabet byte }
+    ensures { result ≡ Alphabet.digit rules.now.choice.alphabet (Alphabet.value rules.now.choice.alphabet byte - held) }
+{
+    let alphabet = rules.choice.alphabet;
+    let Symbol::Digit(v) = table::lookup(&rules.table.values, alphabet, byte) else {
+        unreachable!()
+    };
+    table::digit(&table::digits().bytes, alphabet, v - held)
+}
+
+// The last of the digits with its spare bits zero.
+#[tactic(auto, unfolding(crate::specs::Spelling::last_clear))]
+fn clear_last(rules: &Rules, held: u8, digits: &mut [u8])
+    requires { 0 < held → Clearable rules.now.choice.alphabet held digits.old }
+    ensures { digits.new ≡ Spelling.last_clear rules.now.choice.alphabet held digits.old }
 {
     if held == 0 {
         return;
     }
-    let last = n - 1;
-    let byte = out[last];
-    match table::lookup(t, alphabet, byte) {
-        Symbol::Digit(v) => {
-            let d = table::digits();
-            out[last] = table::digit(&d, alphabet, v - held);
-        }
-        Symbol::Pad => {}
-        Symbol::Neither => {}
+    if let Some(last) = digits.last_mut() {
+        *last = cleared(rules, held, *last);
     }
 }
 
-// = from a place to an end.
-fn put_pads(at: usize, end: usize, out: &mut [u8])
-    requires at_le_end { at ≤ end }
-    requires end_in_bounds { end ≤ length out.old }
-    ensures { out.new ≡ filled (take at out.old ++ replicate (end - at) Alphabet.pad) out.old }
+// The cleaned text of a text whose digits, and the held bits of the last, a count gave: the digits, and = to the end.
+#[tactic(auto, using(crate::proofs::CleanWritten::clean_length, crate::proofs::CleanWritten::written_clean))]
+fn write_clean(choice: Choice, held: u8, text: &[u8], out: &mut [u8])
+    requires spelled { Spelled choice.alphabet choice.options text.now held }
+    requires out_len { length out.old ≡ length (Cleaning.clean choice.alphabet choice.options text.now) }
+    ensures { out.new ≡ Cleaning.clean choice.alphabet choice.options text.now }
 {
-    let mut i = at;
-    while i < end {
-        out[i] = 61;
-        i += 1;
-    }
+    let rules = Rules {
+        table: table::table(),
+        choice,
+    };
+    let n = spell(&rules, text, out);
+    clear_last(&rules, held, &mut out[..n]);
+    out[n..].fill(b'=');
 }
 
-// How much is wanting from n to the next multiple of the group.
-fn wanting(alphabet: usize, n: usize) -> usize
-    requires { alphabet < 6 }
-    ensures { result ≡ Written.wanting (Alphabet.group alphabet) n }
+pub fn tidy(choice: Choice, text: &[u8], out: &mut [u8]) -> Outcome
+    ensures { TidyAs choice.alphabet choice.options text.now out.old result out.new }
 {
-    let g = alphabet::sizes::group(alphabet);
-    (g - n % g) % g
-}
-
-// The cleaned text of a text whose digits, and the held bits of the last, a count gave.
-fn write_clean(alphabet: usize, options: usize, held: u8, need: usize, text: &[u8], out: &mut [u8])
-    requires spelled { Spelled alphabet options text.now held }
-    requires need_value { need ≡ length (Cleaning.clean alphabet options text.now) }
-    requires need_in_bounds { need ≤ length out.old }
-    ensures { out.new ≡ filled (Cleaning.clean alphabet options text.now) out.old }
-{
-    let t = table::table();
-    let n = spell(&t, alphabet, options, text, out);
-    clear_last(&t, alphabet, held, n, out);
-    put_pads(n, need, out);
-}
-
-pub fn tidy(alphabet: usize, options: usize, text: &[u8], out: &mut [u8]) -> Outcome
-    ensures { TidyAs alphabet options text.now out.old result out.new }
-{
-    let ran = engine::piece::count(alphabet, options, text);
+    let ran = engine::piece::count(choice, text);
     let core = ran.core;
-    let digits = core.digits;
-    let held = core.held;
-    match outcome(alphabet, options, ran) {
+    match outcome(choice, ran) {
         Outcome::Refused(kind, _) => Outcome::Refused(kind, Count(0)),
         Outcome::Accepted(place, _) => {
-            let need = digits + wanting(alphabet, digits);
+            let need = core
+                .digits
+                .next_multiple_of(alphabet::sizes::group(choice.alphabet));
             if out.len() < need {
                 return Outcome::Refused(Kind::NoRoom(Place(0)), Count(need));
             }
-            write_clean(alphabet, options, held, need, text, out);
+            write_clean(choice, core.held, text, &mut out[..need]);
             Outcome::Accepted(place, Count(need))
         }
     }

@@ -1,13 +1,12 @@
 -- 01, "The program", and "Streams": "A reader's step takes bytes until the piece is taken (0), a byte is refused, or 3 ..; a later call with room goes
--- on." What a step's answer means for the program's loops. Assumes nothing.
+-- on." What a step's answer means for the program's loop. Assumes nothing.
 use Rattle.std.specs.Prelude.{ℕ, ◌+◌, min, Bool, cond, ◌||◌, eqb}
+use Rattle.std.specs.declared.ops.ControlFlow.{ControlFlow}
+use Rattle.std.specs.declared.ops.ControlFlow.TheVariants.{Continue, Break}
 use Rattle.answer.specs.Told.{told}
-use Rattle.stream.specs.declared.reader.Stepped as Reading
-use Rattle.writing.specs.declared.Stepped as Writing
-use Rattle.turns.specs.declared.taking.Turn as Taking
-use Rattle.turns.specs.declared.taking.Turn.TheVariants as T
-use Rattle.turns.specs.declared.giving.Turn as Giving
-use Rattle.turns.specs.declared.giving.Turn.TheVariants as G
+use Rattle.answer.specs.declared.Outcome.{Outcome}
+use Rattle.answer.specs.declared.Stepped.{Stepped}
+use Rattle.turns.specs.declared.Going.{Going}
 
 -- the piece is taken, or the next byte needs room
 unfoldable pub goes_on : ℕ → Bool
@@ -17,16 +16,9 @@ goes_on answer = eqb answer 0 || eqb answer 3
 abbrev pub sum_of : ℕ → ℕ → ℕ
 sum_of x y = min (x + y) 18446744073709551615
 
--- after a reader's step that gave n bytes: what it did not take of the bytes from at to end is offered again, or its refusal settles the answer
-unfoldable pub read_on : Reading.Stepped → ℕ → ℕ → ℕ → ℕ → Taking.Turn
-read_on s n good at end =
+-- after a step that gave n bytes: what it did not take of the bytes from at to end is offered again; a refusal, and of a writer answer 2, settles it
+unfoldable pub turn_on : {S : Type 0} → Stepped S → ℕ → ℕ → ℕ → ℕ → ControlFlow (Outcome × ℕ) (Going S)
+turn_on s n good at end =
     cond (goes_on (told s.told.outcome).answer)
-    (T.On (record { reader = s.state; good = sum_of good n; at = min (at + s.told.taken.0) end; end = end }))
-    (T.Settled s.told.outcome (sum_of good n))
-
--- after a writer's step: the same, and answer 2 ends it
-unfoldable pub write_on : Writing.Stepped → ℕ → ℕ → Giving.Turn
-write_on s at end =
-    cond (goes_on (told s.told.outcome).answer)
-    (G.On (record { writer = s.state; at = min (at + s.told.taken.0) end; end = end }))
-    G.Ended
+    (Continue (record { state = s.state; good = sum_of good n; at = min (at + s.told.taken.0) end }))
+    (Break (s.told.outcome, sum_of good n))

@@ -1,35 +1,40 @@
-// What a step's answer means for the program's loops: whether they go on, and from where.
-#![tactic(auto)]
+// What a step's answer means for the program's loop: whether it goes on, and from where. One loop drives any stream.
+#![tactic(auto, unfolding(crate::specs::Turns::goes_on, crate::specs::Turns::turn_on))]
 
-pub mod giving; // giving.rt: after a writer's step
-pub mod taking; // taking.rt: after a reader's step
-
-ghost use Rattle.std.specs.Prelude.{◌≡◌, ◌+◌, min};
+ghost use Rattle.std.specs.Prelude.{◌≡◌};
 ghost use Rattle.answer.specs.Told.{told};
-ghost use Rattle.turns.specs.Turns.{goes_on};
+ghost use Rattle.turns.specs.Turns.{goes_on, turn_on};
 
-use answer::{Outcome, numbers};
+use answer::{Outcome, Stepped};
+use std::ops::ControlFlow;
+
+// A stream, the bytes that it has given, and where the part of the buffer begins that it has not taken yet.
+#[derive(Clone, Copy, PartialEq, Eq)]
+pub struct Going<S> {
+    pub state: S,
+    pub good: usize,
+    pub at: usize,
+}
+
+// The loop goes on, or the answer is settled, with the bytes given counted.
+pub type Turn<S> = ControlFlow<(Outcome, usize), Going<S>>;
 
 // Whether a step's answer lets the loop go on: the piece taken, or no room for its next byte.
-#[tactic(auto, unfolding(crate::specs::Turns::goes_on))]
 pub fn goes_on(outcome: Outcome) -> bool
     ensures { result ≡ goes_on (told outcome).answer }
 {
-    let answer = numbers::answer(outcome);
-    if answer == 0 {
-        return true;
-    }
-    answer == 3
+    matches!(outcome.answer(), 0 | 3)
 }
 
-// A sum that stays within a bound.
-pub(crate) fn within(x: usize, y: usize, most: usize) -> usize
-    ensures { result ≡ min (x + y) most }
+// After a step that gave n bytes: what was not taken is offered again, or the answer is settled.
+pub fn after<S: Copy>(stepped: Stepped<S>, n: usize, good: usize, at: usize, end: usize) -> Turn<S>
+    ensures { result ≡ turn_on stepped n good at end }
 {
-    if x < most {
-        if y < most - x {
-            return x + y;
-        }
+    let Stepped { state, told } = stepped;
+    let good = good.saturating_add(n);
+    if !goes_on(told.outcome) {
+        return ControlFlow::Break((told.outcome, good));
     }
-    most
+    let at = at.saturating_add(told.taken.0).min(end);
+    ControlFlow::Continue(Going { state, good, at })
 }

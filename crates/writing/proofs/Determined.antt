@@ -2,23 +2,24 @@
 use Prim.Native.Nat.{ℕ}
 use mathlib.Core.Path.{◌≡◌, sym, ◌∙◌}
 use mathlib.Core.List.{List}
+use Rattle.std.specs.Prelude.{Result}
+use Rattle.answer.specs.declared.Kind.{Kind}
 use Rattle.answer.specs.declared.Outcome.{Outcome}
+use Rattle.answer.specs.declared.Stepped.{Stepped}
 use Rattle.answer.specs.Told.{told}
 use Rattle.answer.proofs.ToldLaws.{told_determines}
 use Rattle.writing.specs.declared.Writer.{Writer}
-use Rattle.writing.specs.declared.Start.{Start}
-use Rattle.writing.specs.declared.Stepped.{Stepped}
 use Rattle.writing.specs.Stream.{start_of}
 use Rattle.spelling.specs.Whole.{write_of}
 use Rattle.writing.specs.Promised.{SteppedAs, FinishedAs, WroteAs}
 
-pub start_determined : (a : ℕ) (x y : Start) → x ≡ start_of a → y ≡ start_of a → x ≡ y
+pub start_determined : (a : ℕ) (x y : Result Writer Kind) → x ≡ start_of a → y ≡ start_of a → x ≡ y
 start_determined a x y e f = e ∙ sym f
 
-pub step_determined : (s : Writer) (piece o p q : List ℕ) (x y : Stepped) → SteppedAs s piece o p x → SteppedAs s piece o q y → (x ≡ y) × (p ≡ q)
+pub step_determined : (s : Writer) (piece o p q : List ℕ) (x y : Stepped Writer) → SteppedAs s piece o p x → SteppedAs s piece o q y → (x ≡ y) × (p ≡ q)
 step_determined s piece o p q x y e f = (e.result ∙ sym f.result, e.buffer ∙ sym f.buffer)
 
-pub finish_determined : (s : Writer) (o p q : List ℕ) (x y : Stepped) → FinishedAs s o p x → FinishedAs s o q y → (x ≡ y) × (p ≡ q)
+pub finish_determined : (s : Writer) (o p q : List ℕ) (x y : Stepped Writer) → FinishedAs s o p x → FinishedAs s o q y → (x ≡ y) × (p ≡ q)
 finish_determined s o p q x y e f = (e.result ∙ sym f.result, e.buffer ∙ sym f.buffer)
 
 pub write_determined : (a : ℕ) (src o p q : List ℕ) (x y : Outcome) → WroteAs a src o p x → WroteAs a src o q y → (x ≡ y) × (p ≡ q)

@@ -10,3 +10,4 @@ pub mod Steps
 pub mod SharedStart
 pub mod StepShort
 pub mod CutRan
+pub mod Cited

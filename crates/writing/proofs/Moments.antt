@@ -12,6 +12,8 @@ use borrow.Author.Tests.{ltb-true, lt-ltb, le-leb}
 use Rattle.alphabet.specs.Alphabet.{bits}
 use Rattle.alphabet.specs.Written.{written, written_length}
 use Rattle.alphabet.proofs.AlphabetLaws.{bits_low}
+use Rattle.std.specs.Prelude.{Result, Ok, Err}
+use Rattle.answer.specs.declared.Kind.{Kind}
 use Rattle.answer.specs.declared.Kind.TheVariants as K
 use Rattle.alphabet.proofs.Lengths.{written_length_law}
 use Rattle.reading.specs.Limit.{limit}
@@ -20,7 +22,6 @@ use Rattle.spelling.specs.declared.Why.TheVariants as W
 use Rattle.writing.specs.declared.Status.{Status}
 use Rattle.writing.specs.declared.Status.TheVariants as U
 use Rattle.writing.specs.declared.Writer.{Writer}
-use Rattle.writing.specs.declared.Start.TheVariants as B
 use Rattle.spelling.specs.Front.{front, held_of, ending, rest}
 use Rattle.spelling.specs.Machine.{Run}
 use Rattle.writing.specs.Stream.{fresh, start_of, fits_status, sound_by, sound, Turn, moved, by_why, close, by_status, in_order, ran_of, step_of, finish_of}
@@ -156,17 +157,17 @@ fresh_moment a h =
       text_is = sym (front_none a h);
     }
 
-start_moment : (a : ℕ) {s : Writer} → start_of a ≡ B.Started s → After s [] []
+start_moment : (a : ℕ) {s : Writer} → start_of a ≡ Ok s → After s [] []
 unfolding start_of
 start_moment a {s} e = go (ltb a 6) refl
   where
     go : (t : Bool) → ltb a 6 ≡ t → After s [] []
     go true l =
-        let q : B.Started (fresh a) ≡ B.Started s = rw l at e in
+        let q : ◌≡◌ {A = Result Writer Kind} (Ok (fresh a)) (Ok s) = rw l at e in
         let r : fresh a ≡ s = cc in
         subst (λ (x : Writer). After x [] []) r (fresh_moment a (ltb-true a 6 l))
     go false l =
-        let q : B.Declined K.Choice ≡ B.Started s = rw l at e in
+        let q : ◌≡◌ {A = Result Writer Kind} (Err K.Choice) (Ok s) = rw l at e in
         let z : ◌≡◌ {A = ℕ} 0 1 = cc in
         absurd (omega arith)
 

@@ -9,7 +9,9 @@ use lib.Seq.{paste, take-append_seam}
 use borrow.Author.Tests.{lt-ltb, le-ltb}
 use Rattle.answer.specs.declared.Kind.{Kind}
 use Rattle.answer.specs.declared.Kind.TheVariants as K
+use Rattle.answer.specs.declared.Outcome.{Outcome}
 use Rattle.answer.specs.declared.Outcome.TheVariants as O
+use Rattle.answer.specs.declared.Stepped.{Stepped}
 use Rattle.answer.specs.Told.{Told, told}
 use Rattle.answer.proofs.ToldCases.{told_accepted, told_refused}
 use Rattle.spelling.specs.declared.Why.{Why}
@@ -17,13 +19,13 @@ use Rattle.spelling.specs.declared.Why.TheVariants as W
 use Rattle.writing.specs.declared.Status.{Status}
 use Rattle.writing.specs.declared.Status.TheVariants as U
 use Rattle.writing.specs.declared.Ran.{Ran}
+use Rattle.writing.specs.declared.front.Front.{Front}
 use Rattle.writing.specs.declared.Writer.{Writer}
-use Rattle.writing.specs.declared.Stepped.{Stepped}
 use Rattle.spelling.specs.Front.{ending}
-use Rattle.spelling.specs.Machine.{Run}
+use Rattle.spelling.specs.Machine.{Run, run}
 use Rattle.writing.specs.Stream.{at, count, sound, Turn, unmoved, closed, by_why, close, by_status, in_order, ran_of, step_of, finish_of}
 use Rattle.reading.specs.Buffer.{filled}
-use Rattle.writing.specs.Promised.{RanAs, given, as_stepped, status_by, outcome_by, ran_as, opened, ClosedAs, handed_out, SteppedAs, FinishedAs}
+use Rattle.writing.specs.Promised.{RanAs, given, as_stepped, opened, OpenAs, ShutAs, MovedAs, ClosedAs, handed_out, SteppedAs, FinishedAs}
 use Rattle.writing.proofs.NumberLaws.{step_numbers_law, finish_numbers_law}
 use Rattle.writing.proofs.Moments.{step_moment, finish_moment}
 use Rattle.spelling.proofs.EndingLaws.{paste_front}
@@ -73,12 +75,12 @@ unfolding finish_of
 finish_counts s room = count_order s _ (count_close s (ending s.alphabet s.taken s.held) room)
 
 -- what is read off the buffer is what was written
-read_off : (t : Turn) (r : Stepped) (o o' : List ℕ) → Counted t → r ≡ as_stepped t → o' ≡ filled t.wrote o → handed_out r o' ≡ t.wrote
+read_off : (t : Turn) (r : Stepped Writer) (o o' : List ℕ) → Counted t → r ≡ as_stepped t → o' ≡ filled t.wrote o → handed_out r o' ≡ t.wrote
 read_off t r o o' c e b = rw (e, b, c) (take-append_seam t.wrote (drop (length t.wrote) o))
 
 -- ---- from the equation to the promise
 
-pub step_promise : (s : Writer) (piece o o' : List ℕ) (r : Stepped) → r ≡ as_stepped (step_of s piece (length o)) → o' ≡ filled (step_of s piece (length o)).wrote o
+pub step_promise : (s : Writer) (piece o o' : List ℕ) (r : Stepped Writer) → r ≡ as_stepped (step_of s piece (length o)) → o' ≡ filled (step_of s piece (length o)).wrote o
     → SteppedAs s piece o o' r
 step_promise s piece o o' r e b =
     record {
@@ -89,7 +91,7 @@ step_promise s piece o o' r e b =
           rw (read_off (step_of s piece (length o)) r o o' (step_counts s piece (length o)) e b, e) (step_moment m piece (length o));
     }
 
-pub finish_promise : (s : Writer) (o o' : List ℕ) (r : Stepped) → r ≡ as_stepped (finish_of s (length o)) → o' ≡ filled (finish_of s (length o)).wrote o
+pub finish_promise : (s : Writer) (o o' : List ℕ) (r : Stepped Writer) → r ≡ as_stepped (finish_of s (length o)) → o' ≡ filled (finish_of s (length o)).wrote o
     → FinishedAs s o o' r
 finish_promise s o o' r e b =
     record {
@@ -101,10 +103,15 @@ finish_promise s o o' r e b =
 
 -- ---- a run's answer as a step's
 
-pub as_ran : (a n : ℕ) (r : Ran) (w : Why) → r.why ≡ w
-    → given (record { alphabet = a; taken = n + r.taken; held = r.held; status = status_by w }) (outcome_by w (n + r.taken) r.written) r.taken ≡ ran_as a n r
-as_ran a n r w e =
-    ap (λ (v : Why). given (record { alphabet = a; taken = n + r.taken; held = r.held; status = status_by v }) (outcome_by v (n + r.taken) r.written) r.taken) (sym e)
+abbrev pub status_by : Why → Status
+status_by W.All = U.Open
+status_by W.Limit = U.TooLong
+status_by W.Room = U.Open
+
+abbrev pub outcome_by : Why → ℕ → ℕ → Outcome
+outcome_by W.All n m = O.Accepted (at n) (count m)
+outcome_by W.Limit n m = O.Refused (K.TooLong (at n)) (count m)
+outcome_by W.Room n m = O.Refused (K.NoRoom (at n)) (count m)
 
 wrote_why : (w : Why) (s : Writer) (R : Run) → R.wrote ≡ (by_why w s R).wrote
 unfolding by_why
@@ -120,8 +127,17 @@ same_why W.All s R = refl
 same_why W.Limit s R = refl
 same_why W.Room s R = refl
 
-as_why : (w : Why) (s : Writer) (R : Run) (x : Ran) (o o' : List ℕ) → RanAs R x o o' → R.why ≡ w → ran_as s.alphabet s.taken x ≡ as_stepped (by_why w s R)
-as_why w s R x o o' a e = rw (a.held, a.why ∙ e, a.taken, a.written) (same_why w s R)
+pub moved : (a n held : ℕ) (piece o : List ℕ) (w : Why) {o' : List ℕ} {x : Ran} {r : Stepped Writer} → RanAs (run a n held piece (length o)) x o o' → x.why ≡ w
+    → r ≡ given (record { alphabet = a; taken = n + x.taken; held = x.held; status = status_by w }) (outcome_by w (n + x.taken) x.written) x.taken
+    → MovedAs a n held piece o o' r
+moved a n held piece o w ran e f =
+    let s : Writer = opened a n held in
+    let R : Run = run a n held piece (length o) in
+    let k : R.why ≡ w = sym ran.why ∙ e in
+    record {
+      result = f ∙ rw (ran.held, ran.taken, ran.written) (same_why w s R) ∙ ap (λ (v : Why). as_stepped (by_why v s R)) (sym k);
+      buffer = ran.buffer ∙ ap (λ (t : List ℕ). filled t o) (wrote_why R.why s R);
+    }
 
 -- ---- the cases as the code takes them, by the order in a call
 
@@ -147,59 +163,45 @@ unfolding by_status
 open_order s t e f = in_order_law s t e f
 
 module _ (s : Writer) (piece o : List ℕ) where
-  step_by : (t : Turn) (o' : List ℕ) (r : Stepped) → step_of s piece (length o) ≡ t → r ≡ as_stepped t → o' ≡ filled t.wrote o → SteppedAs s piece o o' r
+  step_by : (t : Turn) (o' : List ℕ) (r : Stepped Writer) → step_of s piece (length o) ≡ t → r ≡ as_stepped t → o' ≡ filled t.wrote o → SteppedAs s piece o o' r
   step_by t o' r q e b = step_promise s piece o o' r (rw q e) (rw q b)
 
-  finish_by : (t : Turn) (o' : List ℕ) (r : Stepped) → finish_of s (length o) ≡ t → r ≡ as_stepped t → o' ≡ filled t.wrote o → FinishedAs s o o' r
+  finish_by : (t : Turn) (o' : List ℕ) (r : Stepped Writer) → finish_of s (length o) ≡ t → r ≡ as_stepped t → o' ≡ filled t.wrote o → FinishedAs s o o' r
   finish_by t o' r q e b = finish_promise s o o' r (rw q e) (rw q b)
 
-  pub step_bad : (r : Stepped) → sound s ≡ false → r ≡ as_stepped (unmoved s K.BadState) → SteppedAs s piece o o r
+  pub step_shut : {k : Kind} {r : Stepped Writer} → ShutAs s k → r ≡ as_stepped (unmoved s k) → SteppedAs s piece o o r
   unfolding step_of
-  step_bad r e f = step_by (unmoved s K.BadState) o r (bad_order s _ e) f refl
+  step_shut {k} {r} e f = step_by (unmoved s k) o r (e _) f refl
 
-  pub finish_bad : (r : Stepped) → sound s ≡ false → r ≡ as_stepped (unmoved s K.BadState) → FinishedAs s o o r
+  pub finish_shut : {k : Kind} {r : Stepped Writer} → ShutAs s k → r ≡ as_stepped (unmoved s k) → FinishedAs s o o r
   unfolding finish_of
-  finish_bad r e f = finish_by (unmoved s K.BadState) o r (bad_order s _ e) f refl
+  finish_shut {k} {r} e f = finish_by (unmoved s k) o r (e _) f refl
 
-  module _ (ok : sound s ≡ true) where
-    pub step_long : (r : Stepped) → s.status ≡ U.TooLong → r ≡ as_stepped (unmoved s (K.TooLong (at s.taken))) → SteppedAs s piece o o r
-    unfolding step_of
-    step_long r e f = step_by (unmoved s (K.TooLong (at s.taken))) o r (long_order s _ ok e) f refl
+  module _ {f : Front} (k : OpenAs s f) where
+    pub step_open : {o' : List ℕ} {r : Stepped Writer} → MovedAs f.alphabet f.taken f.held piece o o' r → SteppedAs s piece o o' r
+    unfolding step_of ran_of
+    step_open {o'} {r} m =
+        let T : Writer → Turn = λ w. by_why (ran_of w piece (length o)).why w (ran_of w piece (length o)) in
+        step_by (T s) o' r (k.goes_on _)
+        (m.result ∙ ap (λ (w : Writer). as_stepped (T w)) (sym k.state))
+        (m.buffer ∙ ap (λ (w : Writer). filled (T w).wrote o) (sym k.state))
 
-    pub finish_long : (r : Stepped) → s.status ≡ U.TooLong → r ≡ as_stepped (unmoved s (K.TooLong (at s.taken))) → FinishedAs s o o r
+    pub finish_open : {o' : List ℕ} {r : Stepped Writer} → ClosedAs f.alphabet f.taken f.held o o' r → FinishedAs s o o' r
     unfolding finish_of
-    finish_long r e f = finish_by (unmoved s (K.TooLong (at s.taken))) o r (long_order s _ ok e) f refl
-
-    pub step_done : (r : Stepped) → s.status ≡ U.Done → r ≡ as_stepped (unmoved s K.Finished) → SteppedAs s piece o o r
-    unfolding step_of
-    step_done r e f = step_by (unmoved s K.Finished) o r (done_order s _ ok e) f refl
-
-    pub finish_done : (r : Stepped) → s.status ≡ U.Done → r ≡ as_stepped (unmoved s K.Finished) → FinishedAs s o o r
-    unfolding finish_of
-    finish_done r e f = finish_by (unmoved s K.Finished) o r (done_order s _ ok e) f refl
-
-    pub step_ran : (o' : List ℕ) (x : Ran) (r : Stepped) → s.status ≡ U.Open → RanAs (ran_of s piece (length o)) x o o' → r ≡ ran_as s.alphabet s.taken x
-        → SteppedAs s piece o o' r
-    unfolding step_of
-    step_ran o' x r e a f =
-        let R : Run = ran_of s piece (length o) in
-        step_by (by_why R.why s R) o' r (open_order s _ ok e) (f ∙ as_why R.why s R x o o' a refl) (a.buffer ∙ ap (λ (w : List ℕ). filled w o) (wrote_why R.why s R))
-
-    pub finish_closed : (o' : List ℕ) (r : Stepped) → s.status ≡ U.Open → ClosedAs s.alphabet s.taken s.held o o' r → FinishedAs s o o' r
-    unfolding finish_of
-    finish_closed o' r e a =
-        let q : opened s.alphabet s.taken s.held ≡ s = ap (λ (u : Status). record { alphabet = s.alphabet; taken = s.taken; held = s.held; status = u }) (sym e) in
-        let T : Writer → Turn = λ w. close w (ending s.alphabet s.taken s.held) (length o) in
-        finish_by (T s) o' r (open_order s _ ok e) (a.result ∙ ap (λ (w : Writer). as_stepped (T w)) q) (a.buffer ∙ ap (λ (w : Writer). filled (T w).wrote o) q)
+    finish_open {o'} {r} m =
+        let T : Writer → Turn = λ w. close w (ending w.alphabet w.taken w.held) (length o) in
+        finish_by (T s) o' r (k.goes_on _)
+        (m.result ∙ ap (λ (w : Writer). as_stepped (T w)) (sym k.state))
+        (m.buffer ∙ ap (λ (w : Writer). filled (T w).wrote o) (sym k.state))
 
 -- ---- the finish of an open writer
 
 module _ (a n held : ℕ) (o : List ℕ) {need : ℕ} (e : need ≡ length (ending a n held)) where
-  pub closed_short : (r : Stepped) → length o < need → r ≡ as_stepped (unmoved (opened a n held) (K.NoRoom (at n))) → ClosedAs a n held o o r
+  pub closed_short : (r : Stepped Writer) → length o < need → r ≡ as_stepped (unmoved (opened a n held) (K.NoRoom (at n))) → ClosedAs a n held o o r
   unfolding close
   closed_short r l f = let k : ltb (length o) (length (ending a n held)) ≡ true = lt-ltb (length o) (length (ending a n held)) (rw e at l) in record { result = rw k f; buffer = rw k }
 
-  pub closed_done : (o' : List ℕ) (r : Stepped) → need ≤ length o → o' ≡ paste o 0 (ending a n held) (length (ending a n held))
+  pub closed_done : (o' : List ℕ) (r : Stepped Writer) → need ≤ length o → o' ≡ paste o 0 (ending a n held) (length (ending a n held))
       → r ≡ given (closed (opened a n held)) (O.Accepted (at n) (count need)) 0 → ClosedAs a n held o o' r
   unfolding close
   closed_done o' r l p f =

@@ -1,7 +1,8 @@
 -- The test of a state, case by case as the code takes it, and what it shows. Assumes nothing.
 use Prim.Native.Nat.{ℕ, ◌+◌, ◌*◌, ◌%◌, ◌^◌, ◌<◌, ◌≤◌}
 use mathlib.Core.Path.{◌≡◌, refl, sym, ap, ◌∙◌}
-use mathlib.Core.Bool.{Bool, true, false, ◌&&◌}
+use mathlib.Core.Bool.{Bool, true, false, not, ◌&&◌}
+use denote.Enum.Bare.{sameb}
 use native.Mathlib.Omega.{arith}
 use lib.Dec.{eqb, ltb, leb}
 use borrow.Author.Tests.{lt-ltb, le-ltb, eqb-true, eqb-false}
@@ -13,6 +14,7 @@ use Rattle.spelling.specs.Size.{longest_of}
 use Rattle.spelling.proofs.LengthLaws.{longest_known, within_most, beyond_most}
 use Rattle.spelling.proofs.SoundNumbers.{and_first, and_second}
 use Rattle.spelling.proofs.SoundNumbers as numbers
+use Rattle.writing.specs.contracts.Status.{the_type}
 use Rattle.writing.specs.declared.Status.{Status}
 use Rattle.writing.specs.declared.Status.TheVariants as U
 use Rattle.writing.specs.Stream.{fits_status, sound_by}
@@ -55,16 +57,30 @@ module _ (a n held : ℕ) (u : Status) where
     by_status : fits_status u a n ≡ sound_by a n held u
     by_status = sym (parted a n held u ∙ ap (λ (t : Bool). t && fits_status u a n) e)
 
-    pub when_open : u ≡ U.Open → true ≡ sound_by a n held u
+    when_open : u ≡ U.Open → true ≡ sound_by a n held u
     unfolding fits_status
     when_open f = ap (λ (x : Status). fits_status x a n) (sym f) ∙ by_status
 
-    pub when_done : u ≡ U.Done → true ≡ sound_by a n held u
+    when_done : u ≡ U.Done → true ≡ sound_by a n held u
     unfolding fits_status
     when_done f = ap (λ (x : Status). fits_status x a n) (sym f) ∙ by_status
 
-    pub when_long : u ≡ U.TooLong → eqb n (longest_of a) ≡ sound_by a n held u
+    when_long : u ≡ U.TooLong → eqb n (longest_of a) ≡ sound_by a n held u
     unfolding fits_status
     when_long f =
         let s : Sound a n held = numbers.passes a n held e in
         next_exceeds a n s.known s.within ∙ ap (λ (x : Status). fits_status x a n) (sym f) ∙ by_status
+
+-- as the code compares the status
+abbrev differs : Status → Bool
+differs u = not (sameb the_type u U.TooLong)
+
+pub unless_long : (a n held : ℕ) (u : Status) → sound_numbers a n held ≡ true → differs u ≡ true → true ≡ sound_by a n held u
+unless_long a n held U.Open e d = when_open a n held U.Open e refl
+unless_long a n held U.TooLong e d = cc
+unless_long a n held U.Done e d = when_done a n held U.Done e refl
+
+pub where_long : (a n held : ℕ) (u : Status) → sound_numbers a n held ≡ true → differs u ≡ false → eqb n (longest_of a) ≡ sound_by a n held u
+where_long a n held U.Open e d = cc
+where_long a n held U.TooLong e d = when_long a n held U.TooLong e refl
+where_long a n held U.Done e d = cc

@@ -1,6 +1,6 @@
 -- 01, "Streams": "Answer 9 is given exactly when no sequence of calls from a start gives that state", and the text at each moment: "After n bytes,
 -- floor(8n/b) digits have been written." Calls from a start, and what a state and the text handed out are after a source. Assumes nothing.
-use Rattle.std.specs.Prelude.{ℕ, ◌<◌, ◌≤◌, ◌≡◌, List, [], ◌∷◌, ◌++◌, length, take}
+use Rattle.std.specs.Prelude.{ℕ, ◌<◌, ◌≤◌, ◌≡◌, List, [], ◌∷◌, ◌++◌, length, take, Ok}
 use Rattle.alphabet.specs.Bits.{Below}
 use Rattle.alphabet.specs.Alphabet.{bits}
 use Rattle.alphabet.specs.Written.{written}
@@ -10,11 +10,10 @@ use Rattle.writing.specs.Stream.{start_of, step_of, finish_of}
 use Rattle.writing.specs.declared.Status.{Status}
 use Rattle.writing.specs.declared.Status.TheVariants as U
 use Rattle.writing.specs.declared.Writer.{Writer}
-use Rattle.writing.specs.declared.Start.TheVariants as B
 
 -- calls from a start: the source that they took, the text that they handed out, and the state that they gave
 pub data Calls : List ℕ → List ℕ → Writer → Type 0 where
-  start : {s : Writer} (a : ℕ) → start_of a ≡ B.Started s → Calls [] [] s
+  start : {s : Writer} (a : ℕ) → start_of a ≡ Ok s → Calls [] [] s
   step : {src text : List ℕ} {s : Writer} → Calls src text s → (piece : List ℕ) → Below 256 piece → (room : ℕ)
       → Calls (src ++ take (step_of s piece room).took piece) (text ++ (step_of s piece room).wrote) (step_of s piece room).state
   finish : {src text : List ℕ} {s : Writer} → Calls src text s → (room : ℕ) → Calls src (text ++ (finish_of s room).wrote) (finish_of s room).state

@@ -1,6 +1,6 @@
 -- 01, "Streams", for a writer: what a start, a step and a finish give. "Order in a call: 9, then 10, then an earlier refusal other than 3 ..; all three
 -- take and write nothing and return the state unchanged." Assumes nothing.
-use Rattle.std.specs.Prelude.{ℕ, ◌+◌, ◌*◌, ◌%◌, ◌^◌, Bool, true, cond, ◌&&◌, List, [], ltb, leb, length}
+use Rattle.std.specs.Prelude.{ℕ, ◌+◌, ◌*◌, ◌%◌, ◌^◌, Bool, true, cond, ◌&&◌, List, [], ltb, leb, length, Result, Ok, Err}
 use Rattle.alphabet.specs.Written.{written_length}
 use Rattle.answer.specs.declared.Place.{Place}
 use Rattle.answer.specs.declared.Count.{Count}
@@ -17,8 +17,6 @@ use Rattle.spelling.specs.declared.Why.TheVariants as W
 use Rattle.writing.specs.declared.Status.{Status}
 use Rattle.writing.specs.declared.Status.TheVariants as U
 use Rattle.writing.specs.declared.Writer.{Writer}
-use Rattle.writing.specs.declared.Start.{Start}
-use Rattle.writing.specs.declared.Start.TheVariants as B
 
 abbrev pub at : ℕ → Place
 at n = record { 0 = n }
@@ -30,8 +28,8 @@ count n = record { 0 = n }
 unfoldable pub fresh : ℕ → Writer
 fresh a = record { alphabet = a; taken = 0; held = 0; status = U.Open }
 
-unfoldable pub start_of : ℕ → Start
-start_of a = cond (ltb a 6) (B.Started (fresh a)) (B.Declined K.Choice)
+unfoldable pub start_of : ℕ → Result Writer Kind
+start_of a = cond (ltb a 6) (Ok (fresh a)) (Err K.Choice)
 
 -- the test of a state: a refusal for the limit stands only where the next byte exceeds it
 unfoldable pub fits_status : Status → ℕ → ℕ → Bool

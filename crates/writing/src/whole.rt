@@ -5,6 +5,7 @@ ghost use Rattle.reading.specs.Buffer.{filled};
 ghost use Rattle.spelling.specs.Size.{FormFits};
 ghost use Rattle.writing.specs.Promised.{WroteAs};
 
+use super::front::Front;
 use answer::Outcome;
 use spelling::measure::measure;
 
@@ -13,13 +14,10 @@ pub fn write(alphabet: usize, src: &[u8], out: &mut [u8]) -> Outcome
     ensures { WroteAs alphabet src.now out.old out.new result }
 {
     let told = measure(alphabet, src, out.len());
-    match told {
-        Outcome::Accepted(_, _) => {
-            put_form(alphabet, src, out);
-            told
-        }
-        Outcome::Refused(_, _) => told,
+    if let Outcome::Accepted(_, _) = told {
+        put_form(alphabet, src, out);
     }
+    told
 }
 
 // The digits that the source fills whole, and the ending after them.
@@ -27,9 +25,16 @@ fn put_form(alphabet: usize, src: &[u8], out: &mut [u8])
     requires { FormFits alphabet src.now (length out.old) }
     ensures { out.new ≡ filled (written alphabet src.now) out.old }
 {
-    let r = super::run(alphabet, 0, 0, src, out);
-    let held = r.held;
-    let at = r.written;
-    let t = table::digits();
-    super::put_ending(&t, alphabet, src.len(), held, at, out)
+    let begun = Front {
+        alphabet,
+        taken: 0,
+        held: 0,
+    };
+    let ran = begun.run(src, out);
+    let all = Front {
+        alphabet,
+        taken: src.len(),
+        held: ran.held,
+    };
+    all.put_ending(&table::digits(), ran.written, out);
 }

@@ -1,38 +1,56 @@
 // The program: its first line says what to do, the rest of standard input is data, which is read, worked on and written piece by piece.
 #![tactic(auto)]
 
-mod giving; // giving.rt: E, the loop over the streaming writer
-mod input; // input.rt: standard input, read into a lent buffer
-mod output; // output.rt: standard output
-mod said; // said.rt: the line that J prints
-mod taking; // taking.rt: J and D, the loop over the streaming reader
+mod pipe; // pipe.rt: standard input through a buffer, and the loop over a stream
+mod said; // said.rt: the lines that are no data
+mod streams; // streams.rt: the reader and the writer as one kind of stream
 
-use input::Got;
+use answer::Kind;
 use line::First;
-use std::io::{Read, Write};
+use pipe::Pipe;
+use rule::choice::Choice;
+use std::io::{self, Read, Write};
+use stream::reader::Reader;
+use streams::Stream;
+use writing::Writer;
 
-// What the first line asks for, done on the data: those after it among the n bytes in the buffer, and all that are still to come.
-fn obey(n: usize, stdin: &mut impl Read, stdout: &mut impl Write, buf: &mut [u8], out: &mut [u8]) {
-    let end = output::least(n, buf.len());
-    match line::parse(&buf[..end]) {
-        First::Judge(alphabet, options) => {
-            taking::read(false, alphabet, options, end, stdin, stdout, buf, out)
+// J: the reader's good bytes go nowhere, and its answer is told.
+fn judge(choice: Choice, pipe: &mut Pipe<impl Read>, stdout: &mut impl Write) -> io::Result<()> {
+    let Ok(reader) = Reader::start(choice) else {
+        return said::choice(stdout);
+    };
+    let (outcome, good) = pipe.drive(reader, &mut io::sink())?;
+    said::answer(stdout, outcome, good)
+}
+
+// D and E: what the stream gives, the good bytes or the digits.
+fn convert<S: Stream>(
+    start: Result<S, Kind>,
+    pipe: &mut Pipe<impl Read>,
+    stdout: &mut impl Write,
+) -> io::Result<()> {
+    let Ok(stream) = start else {
+        return said::choice(stdout);
+    };
+    pipe.drive(stream, stdout)?;
+    Ok(())
+}
+
+// What the first line asks for, done on the data after it.
+fn obey(pipe: &mut Pipe<impl Read>, stdout: &mut impl Write) -> io::Result<()> {
+    match pipe.first_line()? {
+        Some(First::Judge(alphabet, options)) => {
+            judge(Choice { alphabet, options }, pipe, stdout)
         }
-        First::Decode(alphabet, options) => {
-            taking::read(true, alphabet, options, end, stdin, stdout, buf, out)
+        Some(First::Decode(alphabet, options)) => {
+            convert(Reader::start(Choice { alphabet, options }), pipe, stdout)
         }
-        First::Encode(alphabet) => giving::encode(alphabet, end, stdin, stdout, buf, out),
-        First::Other => said::choice(stdout),
+        Some(First::Encode(alphabet)) => convert(Writer::start(alphabet), pipe, stdout),
+        None => said::choice(stdout),
     }
 }
 
 fn main(rt: HostRuntime) {
-    let mut stdin = rt.stdin();
-    let mut stdout = rt.stdout();
-    let mut buf = [0u8; 65536];
-    let mut out = [0u8; 65536];
-    match input::gather(&mut stdin, &mut buf) {
-        Got::Bytes(n) => obey(n, &mut stdin, &mut stdout, &mut buf, &mut out),
-        Got::Failed => {}
-    }
+    let mut pipe = Pipe::new(rt.stdin());
+    let _ = obey(&mut pipe, &mut rt.stdout()); // a failed read or write leaves nothing to say
 }

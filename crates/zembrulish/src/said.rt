@@ -1,11 +1,14 @@
 // The line that J prints: answer, position and count in decimal, single spaces, byte 10.
-use std::io::Write;
+use answer::Outcome;
+use std::io::{self, Write};
 
-pub(crate) fn line(stdout: &mut impl Write, answer: u32, position: usize, count: usize) {
-    let _ = writeln!(stdout, "{answer} {position} {count}");
+pub(crate) fn answer(stdout: &mut impl Write, outcome: Outcome, good: usize) -> io::Result<()> {
+    let answer = outcome.answer();
+    let position = outcome.position();
+    writeln!(stdout, "{answer} {position} {good}")
 }
 
 // The answer to a first line that asks for nothing, or whose choice is answer 1.
-pub(crate) fn choice(stdout: &mut impl Write) {
-    let _ = stdout.write_all(b"1 0 0\n");
+pub(crate) fn choice(stdout: &mut impl Write) -> io::Result<()> {
+    stdout.write_all(b"1 0 0\n")
 }

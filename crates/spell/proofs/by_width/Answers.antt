@@ -1,17 +1,11 @@
 -- The loop at each width; digits of four bits leave nothing held. Assumes nothing.
 use Prim.Native.Nat.{◌*◌, ◌%◌, ◌^◌}
-use mathlib.Core.Path.{◌≡◌, sym}
+use mathlib.Core.Path.{◌≡◌}
 use native.Mathlib.Nat.{mod-one}
 use native.Mathlib.Omega.{arith}
 use Rattle.alphabet.specs.Alphabet.{bits}
 use Rattle.alphabet.proofs.AlphabetLaws.{bits_low, bits_high}
 use Rattle.spell.proofs.by_width.Goals as goal
-
-pub spell-requires-in_default : goal.spell-requires-in_default
-spell-requires-in_default c =
-    let a = c.args.alphabet in
-    let four : bits a ≡ 4 = omega (arith, bits_low a c.requires.known, bits_high a c.requires.known, c.bits.ensures) in
-    record { table = c.requires.table; width = sym four; known = c.requires.known }
 
 pub returns-in_default : goal.returns-in_default
 returns-in_default c =

@@ -24,8 +24,8 @@ returns-then-longest-n c =
 pub written_len-requires : goal.written_len-requires
 written_len-requires c = (omega arith, source_within _ _ 0 (omega arith) (rw c.longest.ensures at c.if-longest-n.false))
 
-pub returns : goal.returns
+pub returns-else-longest-n : goal.returns-else-longest-n
 unfolding size_of
-returns c =
+returns-else-longest-n c =
     let s = c.args in
     rw (c.written_len.ensures, lt-ltb s.alphabet 6 (omega arith), le-ltb limit (written_length s.alphabet s.n) (source_within _ _ 0 (omega arith) (rw c.longest.ensures at c.if-longest-n.false)))

@@ -5,6 +5,6 @@ use Rattle.alphabet.specs.Alphabet.{digit, digits}
 use Rattle.table.specs.Table.{made, digit_entries}
 use Rattle.table.proofs.digits.Goals as goal
 
-pub returns : goal.returns
+pub invariant_of-result : goal.invariant_of-result
 unfolding ascii digit digits made digit_entries
-returns c = refl
+invariant_of-result c = record { is = refl }

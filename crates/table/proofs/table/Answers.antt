@@ -5,6 +5,6 @@ use Rattle.alphabet.specs.Alphabet.{value, place_from, digits}
 use Rattle.table.specs.Table.{made, entries}
 use Rattle.table.proofs.table.Goals as goal
 
-pub returns : goal.returns
+pub invariant_of-result : goal.invariant_of-result
 unfolding ascii value place_from digits made entries
-returns c = refl
+invariant_of-result c = record { is = refl }

@@ -2,37 +2,28 @@
 use mathlib.Core.Path.{sym, ◌∙◌}
 use native.Mathlib.Omega.{arith}
 use lib.ListN.{length, take}
-use Rattle.engine.proofs.AtLimit.{below_inside, below_length, below_fits, start_ready, fresh_is, fresh_filled, fresh_none}
+use Rattle.engine.proofs.AtLimit.{below_fits, start_ready, fresh_is, fresh_filled, fresh_none}
 use Rattle.engine.proofs.AtLimit.{from_start, filled_start, unfit_start}
 use Rattle.engine.proofs.piece.in_place.Goals as goal
 
-pub slice_bounds-settle-end : goal.slice_bounds-settle-end
-slice_bounds-settle-end c = omega (arith, c.below_limit-m.ensures, below_inside 0 (length c.args.buf.now))
-
-pub slice_bounds-settle-end-then-allowed : goal.slice_bounds-settle-end-then-allowed
-slice_bounds-settle-end-then-allowed c = sym (below_length 0 c.args.buf.now c.below_limit-m.ensures)
-
 pub settle-r-requires : goal.settle-r-requires
-settle-r-requires c = record {
-  t_value = c.table-t.ensures;
-  options_value = (sym c.allowed.ensures ∙ c.if-allowed.true);
-  ready = start_ready c.fresh-start.ensures
-      (omega (arith, below_fits 0 c.args.buf.now c.below_limit-m.ensures));
-}
-
-pub returns-then-allowed : goal.returns-then-allowed
-returns-then-allowed c = let l = take c.below_limit-m.result c.args.buf.now in
-    record {
-      value = fresh_is c.args.alphabet c.args.options c.args.buf.now (sym c.allowed.ensures ∙ c.if-allowed.true) c.below_limit-m.ensures
-          (from_start c.args.alphabet c.args.options (length l) l c.fresh-start.ensures c.settle-r.ensures.value)
-          c.at_limit.ensures;
-      buf_after = fresh_filled c.args.alphabet c.args.options c.args.buf.now (sym c.allowed.ensures ∙ c.if-allowed.true) c.below_limit-m.ensures
-          (filled_start c.args.alphabet c.args.options (length l) l l c.fresh-start.ensures c.settle-r.ensures.buf_after);
-    }
+settle-r-requires c = start_ready c.fresh-start.ensures (omega (arith, below_fits 0 c.args.buf.now c.below_limit-m.ensures))
 
 pub returns : goal.returns
 returns c =
+    let a = c.args.choice.alphabet in
+    let opts = c.args.choice.options in
+    let l = take c.below_limit-m.result c.args.buf.now in
+    let allowed = sym c.allowed.ensures ∙ c.if-not-allowed.false in
     record {
-      value = (fresh_none c.args.alphabet c.args.options c.args.buf.now (sym c.allowed.ensures ∙ c.if-allowed.false) (unfit_start c.fresh-start.ensures)).0;
-      buf_after = (fresh_none c.args.alphabet c.args.options c.args.buf.now (sym c.allowed.ensures ∙ c.if-allowed.false) (unfit_start c.fresh-start.ensures)).1;
+      value = fresh_is a opts c.args.buf.now allowed c.below_limit-m.ensures
+          (from_start a opts (length l) l c.fresh-start.ensures (rw c.of.ensures at c.settle-r.ensures.value)) c.at_limit.ensures;
+      buf_after = fresh_filled a opts c.args.buf.now allowed c.below_limit-m.ensures
+          (filled_start a opts (length l) l l c.fresh-start.ensures (rw c.of.ensures at c.settle-r.ensures.buf_after));
     }
+
+pub returns-then-not-allowed : goal.returns-then-not-allowed
+returns-then-not-allowed c =
+    let n = fresh_none c.args.choice.alphabet c.args.choice.options c.args.buf.now (sym c.allowed.ensures ∙ c.if-not-allowed.true)
+    (c.nothing.ensures ∙ unfit_start c.fresh-start.ensures) in
+    record { value = n.0; buf_after = n.1 }

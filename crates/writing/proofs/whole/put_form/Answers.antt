@@ -5,16 +5,17 @@ use Rattle.spelling.proofs.LengthLaws.{none_within}
 use Rattle.writing.proofs.WholeLaws.{source_sound, room_for_ending, whole_laid}
 use Rattle.writing.proofs.whole.put_form.Goals as goal
 
-pub run-r-requires : goal.run-r-requires
-run-r-requires c =
-    record { known = c.requires.known; within = none_within c.args.alphabet c.requires.known; small = pow_pos _ }
+pub invariant_of-begun : goal.invariant_of-begun
+invariant_of-begun c =
+    record { sound = record { known = c.requires.known; within = none_within c.args.alphabet c.requires.known; small = pow_pos _ } }
+
+pub invariant_of-all : goal.invariant_of-all
+invariant_of-all c = record { sound = source_sound _ c.requires.known _ _ _ _ c.requires.within c.requires.roomy c.run-ran.ensures }
 
 pub put_ending-requires : goal.put_ending-requires
-put_ending-requires c = record {
-  t_value = (c.digits-t.ensures, source_sound _ c.requires.known _ _ _ _ c.requires.within c.requires.roomy c.run-r.ensures);
-  held_in_bounds = rw c.run-r.auto.out (room_for_ending _ c.requires.known _ _ _ _ c.requires.within c.requires.roomy c.run-r.ensures);
-}
+put_ending-requires c =
+    rw c.run-ran.auto.out (room_for_ending _ c.requires.known _ _ _ _ c.requires.within c.requires.roomy c.run-ran.ensures)
 
 pub returns : goal.returns
 returns c =
-    c.put_ending.ensures ∙ whole_laid _ c.requires.known _ _ _ _ c.requires.within c.requires.roomy c.run-r.ensures
+    c.put_ending.ensures ∙ whole_laid _ c.requires.known _ _ _ _ c.requires.within c.requires.roomy c.run-ran.ensures

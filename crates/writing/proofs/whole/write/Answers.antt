@@ -10,5 +10,5 @@ pub returns-in-Accepted : goal.returns-in-Accepted
 returns-in-Accepted c =
     wrote_all _ _ _ c.measure-told.ensures _ _ c.in-Accepted.is c.put_form.ensures
 
-pub returns-in-Refused : goal.returns-in-Refused
-returns-in-Refused c = wrote_none _ _ _ c.measure-told.ensures _ _ c.in-Refused.is
+pub returns-in_default : goal.returns-in_default
+returns-in_default c = wrote_none _ _ _ c.measure-told.ensures _ _ c.in_default.is
