@@ -8,7 +8,7 @@ use crate::judging::outcome;
 use answer::{Count, Kind, Outcome, Place};
 use rule::choice::Choice;
 
-// The most good bytes that a text of so many bytes has.
+// The most good bytes that a text of so many bytes has. The bound on the alphabet stays a clause: a type for it would be made for this call.
 #[tactic(auto, using(rule::proofs::Readiness::small_product), unfolding(crate::specs::Room::most_of))]
 fn most(alphabet: usize, len: usize) -> usize
     requires { alphabet < 6 }

@@ -49,7 +49,8 @@ impl Rules {
         let mut r = B * k.digits % 8;
         let mut i: usize = 0;
         let mut n: usize = 0;
-        // Counted here, with one end for all: by `enumerate` and an early return at each end it misses the bar of speed.
+        // `n` is the next place of `out`: it moves only where a byte is completed. `i` is counted here, with one end for all: by `enumerate` and an early
+        // return at each end it misses the bar of speed.
         for &byte in piece {
             let v = self.table.values[row + byte as usize];
             if v == 255 {

@@ -49,7 +49,8 @@ impl Rules {
         ensures buf_after { buf.new ≡ filled (run_by self.now.choice start buf.old (length buf.old)).wrote buf.old }
     {
         let mut s = Ran::nothing(start, Why::All);
-        // By runs: where the next part begins, the run so far tells, and no slice is lent over a write. The part's copy has fixed memory.
+        // By hand: where the next part begins, the run so far tells, and the buffer that is read is also written. A part is copied to fixed memory, since
+        // no heap is used. `fill` goes by stretches of a piece, this by parts of the buffer.
         while s.goes_on(buf.len()) {
             let (i, n) = (s.took, s.wrote);
             let e = part_end(i, buf.len());

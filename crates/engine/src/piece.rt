@@ -53,7 +53,7 @@ impl Ran {
         ensures { result ≡ Spec.then_as self next }
     {
         Ran {
-            // By its fields: moved whole, a `Core` takes its padding along, and with CASE a run falls to half its speed.
+            // By its fields: moved whole, a `Core` copies its unused bytes too, and with CASE a run falls to half its speed.
             core: Core {
                 held: next.core.held,
                 ..next.core

@@ -42,6 +42,8 @@ impl<S: Copy> Two for By<S> {
     }
 }
 
+// A step, and a step that is lent the state, are said for each stream: its relation is its own, which the pages name.
+
 // ---- the reader
 
 impl Step for By<Reader> {

@@ -15,7 +15,7 @@ pub enum First {
 // How long a first line is, with its byte 10.
 pub const LINE: usize = 7;
 
-// The number that a digit stands for.
+// The number that a digit stands for; none of another byte.
 fn digit(c: u8) -> Option<usize>
     ensures value { result ≡ digit c }
     ensures upper_bound { IfSome result (λ n. n < 10) }

@@ -18,7 +18,7 @@ pub fn fresh() -> Core
 }
 
 impl Choice {
-    // Whether the held bits are as many as the digits leave.
+    // Whether the held bits are as many as the digits leave. The bound on the alphabet stays a clause: a type for it would be made for this call.
     #[tactic(auto, using(crate::proofs::Readiness::small_product, regroup::proofs::Shifts::one_shifted), unfolding(crate::specs::State::small))]
     fn small(self, core: Core) -> bool
         requires alphabet_bound { self.alphabet < 6 }

@@ -23,7 +23,7 @@ fn value(z: usize, k: usize, b: usize) -> u8
     ((z >> k) & ((1 << b) - 1)) as u8
 }
 
-// Their digit.
+// Their digit. The bounds stay a clause: a type for them would be made for this call.
 fn digit_above<const B: usize>(t: &Digits, alphabet: usize, z: usize, k: usize) -> u8
     requires { (alphabet < 6) × (B ≡ bits alphabet) × (k < 16) }
     ensures { result ≡ digit alphabet (z / 2 ^ k % 2 ^ B) }
@@ -58,7 +58,7 @@ fn spell<const B: usize>(
 {
     let mut few = 8 * (taken % B) % B;
     let mut h = held;
-    let mut n = 0;
+    let mut n = 0; // the next place of `out`: it moves by one digit or two
     for (i, &byte) in piece.iter().enumerate() {
         let z = (h as usize) * 256 + byte as usize;
         let k = few + 8 - B;

@@ -25,14 +25,14 @@ pub enum NoSize {
     TooLong,
 }
 
-// The longest source whose written form is within the limit; 0 for an alphabet above 5.
+// The longest source whose written form is within the limit; 0 for an alphabet above 5, as `longest_of` has it.
 pub fn longest(alphabet: usize) -> usize
     ensures { result ≡ longest_of alphabet }
 {
     alphabet::sizes::bits(alphabet) * reading::limit() / 8
 }
 
-// The length of the written form of n bytes: their digits, up to the end of a group.
+// The length of the written form of n bytes: their digits, up to the end of a group. The bounds stay a clause: a type would be made for this call.
 fn written_len(alphabet: usize, n: usize) -> usize
     requires { (alphabet < 6) × (written_length alphabet n ≤ limit) }
     ensures { result ≡ written_length alphabet n }

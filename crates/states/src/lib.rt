@@ -10,7 +10,8 @@ use reading::limit;
 use rule::choice::{Choice, NOPAD, SPARE};
 use rule::{Cause, Core};
 
-// Whether a stream goes on, has refused, or is finished. A refusal's place is not kept: it is the number of bytes taken.
+// Whether a stream goes on, has refused, or is finished. A refusal's place is not kept: it is the number of bytes
+// taken. The writer's (in `writing`) has one cause alone.
 #[derive(Clone, Copy, PartialEq, Eq)]
 pub enum Status {
     Open,

@@ -68,7 +68,7 @@ impl Reader {
         }
     }
 
-    // What a run gives as a step: the state anew, and the answer by why it stopped.
+    // What a run gives as a step: the state anew, and the answer by why it stopped. The writer's is another match: its own reasons, its own state.
     fn after(self, ran: Ran) -> Stepped<Reader>
         ensures { result ≡ as_step self.choice ran }
     {

@@ -156,7 +156,7 @@ pub fn digits() -> Digits
     Digits { bytes: DIGITS }
 }
 
-// A value's digit in the lent table of digits; 0 for an alphabet above 5 or a value above 63.
+// A value's digit in the lent table of digits; 0 for an alphabet above 5 or a value above 63, as `digit_in` has it.
 pub fn digit(t: &[u8; 384], alphabet: usize, value: u8) -> u8
     ensures { result ≡ digit_in t.now alphabet value }
 {

@@ -42,7 +42,7 @@ fn spell(rules: &Rules, text: &[u8], out: &mut [u8]) -> usize
     ensures value { result ≡ length (spelt rules.now.choice.alphabet rules.now.choice.options text.now) }
     ensures out_after { out.new ≡ filled (spelt rules.now.choice.alphabet rules.now.choice.options text.now) out.old }
 {
-    let mut n = 0;
+    let mut n = 0; // the next place of `out`: it moves only where a digit is written
     for &byte in text {
         if let Some(digit) = own_digit(rules, byte) {
             out[n] = digit;

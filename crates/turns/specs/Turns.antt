@@ -16,7 +16,7 @@ goes_on answer = eqb answer 0 || eqb answer 3
 abbrev pub sum_of : ℕ → ℕ → ℕ
 sum_of x y = min (x + y) 18446744073709551615
 
--- after a step that gave n bytes: what it did not take of the bytes from at to end is offered again; a refusal, and of a writer answer 2, settles it
+-- after a step that gave n bytes: what it did not take of the bytes from at to end is offered again; any answer but 0 and 3 settles it
 unfoldable pub turn_on : {S : Type 0} → Stepped S → ℕ → ℕ → ℕ → ℕ → ControlFlow (Outcome × ℕ) (Going S)
 turn_on s n good at end =
     cond (goes_on (told s.told.outcome).answer)

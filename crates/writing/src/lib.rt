@@ -25,7 +25,7 @@ pub struct Writer {
     pub status: Status,
 }
 
-// What a run over a piece came to: the bits held, why it stopped, the bytes taken and the digits written.
+// What a run over a piece came to: the bits held (the engine's run holds a whole state), why it stopped, the bytes taken and the digits written.
 #[derive(Clone, Copy)]
 struct Ran {
     held: u8,

@@ -82,7 +82,8 @@ impl Front {
         }
     }
 
-    // A step of an open writer: the state after the run, and the answer by why it stopped, with the source bytes taken in this call.
+    // A step of an open writer: the state after the run, and the answer by why it stopped, with the source bytes taken in this call. The reader's is
+    // another match: its own reasons, its own state.
     fn step(self, piece: &[u8], out: &mut [u8]) -> Stepped<Writer>
         ensures { MovedAs self.alphabet self.taken self.held piece.now out.old out.new result }
     {

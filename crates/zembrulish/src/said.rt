@@ -2,6 +2,7 @@
 use answer::Outcome;
 use std::io::{self, Write};
 
+// No Display of an outcome: the third number is the sum over all steps.
 pub(crate) fn answer(stdout: &mut impl Write, outcome: Outcome, good: usize) -> io::Result<()> {
     let answer = outcome.answer();
     let position = outcome.position();
