@@ -310,3 +310,15 @@ module _ {a opts : ℕ} {buf₀ : List ℕ} {start : Core} {buf : List ℕ} {s :
       pub settled_fits : length (take (e - s.took) (aside ++ behind)) ≤ length (take (length buf - s.wrote) (drop s.wrote buf))
       settled_fits = rw (settled_part, part_size c settled_ends, rest_all buf s.wrote, length-drop s.wrote buf)
           (omega (arith, c.behind, p.begins, p.within))
+
+      -- a run over it is one turn of the loop: the state and the buffer then, and some byte was taken where it goes on
+      module _ {r : Ran} (told : r ≡ ran_as (run a opts (take (e - s.took) (aside ++ behind)) (state_of s.core)
+          (length (take (length buf - s.wrote) (drop s.wrote buf))))) where
+        pub settled_turn : {out : List ℕ}
+            → out ≡ filled (run a opts (take (e - s.took) (aside ++ behind)) (state_of s.core)
+            (length (take (length buf - s.wrote) (drop s.wrote buf)))).wrote (take (length buf - s.wrote) (drop s.wrote buf))
+            → Settled a opts buf₀ start (take s.wrote buf ++ (out ++ drop (length buf - s.wrote) (drop s.wrote buf))) (then_as s r)
+        settled_turn fill = settled_then s h c settled_ends settled_part settled_fits told f.front fill
+
+        pub settled_some : r.why ≡ W.All → 0 < r.took
+        settled_some = counted_some s h c settled_ends settled_part settled_fits told
