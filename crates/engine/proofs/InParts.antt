@@ -299,7 +299,7 @@ module _ {a opts : ℕ} {buf₀ : List ℕ} {start : Core} {buf : List ℕ} {s :
         ∙ drop-drop (s.took - s.wrote) s.wrote buf₀
         ∙ ap (λ (m : ℕ). drop m buf₀) j
 
-    settled_reads : length (take (e - s.took) (drop s.took buf)) ≡ e - s.took
+    pub settled_reads : length (take (e - s.took) (drop s.took buf)) ≡ e - s.took
     settled_reads = rw ahead (part_size c settled_ends)
 
     -- and it is put aside, at the front

@@ -93,7 +93,7 @@ module _ {a : ℕ} {start : Core} {piece out₀ out : List ℕ} {h r i n : ℕ} 
     now_fit : Fit a (core_at start h r i)
     now_fit = fit x strict.loop q l
 
-    byte_small : v < 256
+    pub byte_small : v < 256
     byte_small = lt_of_lt_of_le small (pow_mono {j = 8} (omega (arith, bits_high a x)))
 
     wide : bits a < 8

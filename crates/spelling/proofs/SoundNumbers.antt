@@ -28,13 +28,13 @@ module _ (a n held : ℕ) (h : a < 6) where
   source_within w = (within_most a h n).1 (rw (longest_known a h) at w)
 
   module _ (w : n ≤ longest_of a) {b : ℕ} (eb : b ≡ bits a) where
-    too_large : 0 < held / 2 ^ (8 * n % b) → false ≡ sound_numbers a n held
+    pub too_large : 0 < held / 2 ^ (8 * n % b) → false ≡ sound_numbers a n held
     unfolding sound_numbers
     too_large l =
         let k : 1 * 2 ^ (8 * n % b) ≤ held = (le-div_iff_mul-le (pow_pos (8 * n % b))).0 l in
         rw (lt-ltb a 6 h, le-leb (written_length a n) limit (source_within w), le-ltb held (2 ^ (8 * n % bits a)) (rw (one-mul, eb) at k))
 
-    all_right : held / 2 ^ (8 * n % b) ≤ 0 → true ≡ sound_numbers a n held
+    pub all_right : held / 2 ^ (8 * n % b) ≤ 0 → true ≡ sound_numbers a n held
     unfolding sound_numbers
     all_right l =
         let k : held < 2 ^ (8 * n % bits a) = rw (one-mul, eb) at ((div-lt_iff_lt-mul {x = held} {y = 1} (pow_pos (8 * n % b))).0 (omega arith)) in

@@ -19,7 +19,7 @@ module _ (a opts : ℕ) (k : Core) where
       sound_ready a opts k x.choice x.within
       (record { held = x.fits.held; digits = omega (arith, x.fits.counts); pads = omega (arith, x.fits.counts) })
 
-  unready : ready a opts k ≡ false → readable a opts (state_of k) ≡ false
+  pub unready : ready a opts k ≡ false → readable a opts (state_of k) ≡ false
   unready e = go (readable a opts (state_of k)) refl
     where
       go : (x : Bool) → readable a opts (state_of k) ≡ x → x ≡ false

@@ -4,6 +4,7 @@
 mod tables; // tables.rt: the two tables as types, each with what its numbers are
 
 ghost use Rattle.std.specs.Prelude.{◌≡◌};
+ghost use Rattle.table.specs.Made.{the_table, the_digits};
 ghost use Rattle.table.specs.Table.{entries, symbol_in, digit_entries, digit_in};
 
 pub use tables::{Digits, Table};
@@ -130,8 +131,10 @@ const DIGITS: [u8; 384] = *b"\
     \0\0\0\0\0\0\0\0\0\0\0\0\0\0\0\0\0\0\0\0\0\0\0\0\0\0\0\0\0\0\0\0\
     \0\0\0\0\0\0\0\0\0\0\0\0\0\0\0\0";
 
+#[tactic(auto, using(crate::proofs::MadeLaws::table_is))]
 pub fn table() -> Table
-    ensures { result.values ≡ entries }
+    ensures value { result.values ≡ entries }
+    ensures whole { result ≡ the_table }
 {
     Table { values: VALUES }
 }
@@ -150,8 +153,10 @@ pub fn lookup(t: &[u8; 1536], alphabet: usize, byte: u8) -> Symbol
     }
 }
 
+#[tactic(auto, using(crate::proofs::MadeLaws::digits_is))]
 pub fn digits() -> Digits
-    ensures { result.bytes ≡ digit_entries }
+    ensures value { result.bytes ≡ digit_entries }
+    ensures whole { result ≡ the_digits }
 {
     Digits { bytes: DIGITS }
 }

@@ -4,14 +4,14 @@ ghost use Rattle.std.specs.Prelude.{◌≡◌};
 ghost use Rattle.table.specs.Table.{entries, digit_entries};
 
 // The reverse table: its entries are those that the rule makes.
-#[derive(Drop)]
+#[derive(Clone, Copy)]
 pub struct Table {
     pub values: [u8; 1536],
     pub ghost is: { values ≡ entries },
 }
 
 // The table of digits: its bytes are those that the rule makes.
-#[derive(Drop)]
+#[derive(Clone, Copy)]
 pub struct Digits {
     pub bytes: [u8; 384],
     pub ghost is: { bytes ≡ digit_entries },

@@ -41,6 +41,8 @@ module _ (a opts c : ℕ) (ok : allowed a opts ≡ true) where
 
 -- what is spelt of the first i bytes stands at the front
 pub record Spelling (a opts : ℕ) (text o₀ o : List ℕ) (i n : ℕ) : Type 0 where
+  pub within : i ≤ length text
+  pub behind : n ≤ i
   pub count : n ≡ length (spelt a opts (take i text))
   pub front : o ≡ filled (spelt a opts (take i text)) o₀
 
@@ -62,6 +64,8 @@ module _ {a opts : ℕ} {text o₀ o : List ℕ} {i n : ℕ} (s : Spelling a opt
         → Spelling a opts text o₀ (set o n x) (i + 1) (n + 1)
     spelling_puts {x} r e =
         record {
+          within = omega arith;
+          behind = omega (arith, s.behind);
           count = rw (next e, length-append) (ap (λ (m : ℕ). m + 1) s.count);
           front = rw (next e, s.front, length-append, ← s.count) (stored (spelt a opts (take i text)) o₀ n x (sym s.count) (spelling_room r e));
         }
@@ -69,7 +73,7 @@ module _ {a opts : ℕ} {text o₀ o : List ℕ} {i n : ℕ} (s : Spelling a opt
     pub spelling_skips : [] ≡ spelt a opts (get_or text i 0 ∷ []) → Spelling a opts text o₀ o (i + 1) n
     spelling_skips e =
         let same : spelt a opts (take (i + 1) text) ≡ spelt a opts (take i text) = next e ∙ append-nil (spelt a opts (take i text)) in
-        record { count = rw same s.count; front = rw same s.front }
+        record { within = omega arith; behind = omega (arith, s.behind); count = rw same s.count; front = rw same s.front }
 
   pub spelling_ends : length text ≤ i → (n ≡ length (spelt a opts text)) × (o ≡ filled (spelt a opts text) o₀)
   spelling_ends l = (rw (take_all i text l) at s.count, rw (take_all i text l) at s.front)

@@ -57,15 +57,15 @@ module _ (a n held : ℕ) (u : Status) where
     by_status : fits_status u a n ≡ sound_by a n held u
     by_status = sym (parted a n held u ∙ ap (λ (t : Bool). t && fits_status u a n) e)
 
-    when_open : u ≡ U.Open → true ≡ sound_by a n held u
+    pub when_open : u ≡ U.Open → true ≡ sound_by a n held u
     unfolding fits_status
     when_open f = ap (λ (x : Status). fits_status x a n) (sym f) ∙ by_status
 
-    when_done : u ≡ U.Done → true ≡ sound_by a n held u
+    pub when_done : u ≡ U.Done → true ≡ sound_by a n held u
     unfolding fits_status
     when_done f = ap (λ (x : Status). fits_status x a n) (sym f) ∙ by_status
 
-    when_long : u ≡ U.TooLong → eqb n (longest_of a) ≡ sound_by a n held u
+    pub when_long : u ≡ U.TooLong → eqb n (longest_of a) ≡ sound_by a n held u
     unfolding fits_status
     when_long f =
         let s : Sound a n held = numbers.passes a n held e in
